@@ -1,0 +1,15 @@
+-- The promises about tables and their files, proved. Assumes nothing.
+use Rattle.rules.specs.Tables.{TablePromises}
+use Rattle.rules.proofs.Bounds.{response-is}
+use Rattle.rules.proofs.Plans.{planned-iff, nothing-below}
+use Rattle.rules.proofs.Files.{read-iff, written-read, read-written}
+
+pub tables : TablePromises
+tables = record {
+  bounds-least = response-is;
+  planned-iff = planned-iff;
+  nothing-below = nothing-below;
+  read-iff = read-iff;
+  written-read = λ rs narrow. written-read rs;
+  read-written = read-written;
+}

@@ -1,0 +1,167 @@
+-- A whole tick: what an accepted one has passed, and that it keeps the invariant of the station. Assumes nothing.
+use Prim.Native.Nat.{suc, zero-le, ℕ, _+_, _<_, _≤_}
+use mathlib.Core.Bool.{Bool, cond, false, false≢true, not, true, true≢false, _&&_}
+use mathlib.Core.List.{List, [], _∷_}
+use mathlib.Core.Option.{Option, Option·map, none, some}
+use mathlib.Core.Path.{refl, sym, _∙_, _≡_}
+use borrow.Author.Tests.{eq-eqb, eqb-true, ne-eqb, not-false}
+use lib.Dec.{eqb}
+use native.Mathlib.Omega.{arith}
+use Rattle.rules.specs.Lists.{All, each, find, firstOf, orElse, unless}
+use Rattle.rules.specs.Refusals.{atRow, none-ran, not-ready, refusal, unknown-row}
+use Rattle.rules.specs.Bound.{most}
+use Rattle.rules.specs.Station.{Firm, Job, Slot, Station, closed, firm-of, isOpen, nobody, opened, promoted, rested, row-at, wait}
+use Rattle.rules.specs.Tick.{Answer, Closed, Runner, bit, choose, close, lastAt, lastOf, no-tick, noneRan, passed, ranOnce, release, released, run, shut, stepped, tick, unknown, unready}
+use Rattle.rules.specs.Promise.{OnTicked}
+use Rattle.rules.proofs.Bools.{and-true, cond-none}
+use Rattle.rules.proofs.Choose.{on-choose}
+use Rattle.rules.proofs.Close.{close-good, close-slots, close-unspent, on-close, shut-keeps}
+use Rattle.rules.proofs.Demand.{passed-good}
+use Rattle.rules.proofs.Facts.{AllRuns, Good, Runs, Unspent}
+use Rattle.rules.proofs.Hard.{AllReady, AllSafe, FromBounds, Turn, close-safe, no-one, pass-safe, release-safe, weaken}
+use Rattle.rules.proofs.Walks.{all-both, each-all}
+
+not-open : (j : Job) → not (isOpen j) ≡ true → j ≡ closed
+not-open closed e = refl
+not-open (opened r) e = absurd (false≢true e)
+
+-- the test of refusal 14 passed over: each released row is rested and has no job open
+ready-is : (s : Slot) (b : Bool) → (b && not (rested s && not (isOpen (s .job)))) ≡ false → b ≡ true → (wait s ≡ 0) × (s .job ≡ closed)
+ready-is s b e q =
+    let both = and-true (rested s) (not (isOpen (s .job))) (not-false (rested s && not (isOpen (s .job))) (rw q at e)) in
+    (eqb-true (wait s) 0 (both .0), not-open (s .job) (both .1))
+
+all-ready : (set i : ℕ) (ss : List Slot) → find (unready set) i ss ≡ none → AllReady (bit set) i ss
+all-ready set i [] e = tt
+all-ready set i (s ∷ ss) e =
+    let no = cond-none (unready set i s) i (find (unready set) (suc i) ss) e in
+    (ready-is s (bit set i) (no .0), all-ready set (suc i) ss (no .1))
+
+-- an accepted tick
+
+abbrev pub After : (Station → Answer → Type 0) → Closed → ℕ → Bool → Type 0
+After P c set wants = OnTicked P (stepped c set wants)
+
+pub on-tick : (P : Station → Answer → Type 0) (st : Station) (set : ℕ) (d wants : Bool)
+    → (AllReady (bit set) 0 (close st d .station .slots) → After P (close st d) set wants)
+    → OnTicked P (tick st set d wants)
+unfolding tick
+on-tick P st set d wants h =
+    go (firstOf (unknown (st .slots) set) 0 16) (noneRan (st .last) d) (find (unready set) 0 (close st d .station .slots)) refl
+  where
+    go : (a : Option ℕ) (b : Bool) (c : Option ℕ) → find (unready set) 0 (close st d .station .slots) ≡ c
+        → OnTicked P (unless (orElse (Option·map (atRow unknown-row) a) (orElse (cond b (some (refusal none-ran)) none) (Option·map (atRow not-ready) c))) no-tick (stepped (close st d) set wants))
+    go (some k) b c e = tt
+    go none true c e = tt
+    go none false (some k) e = tt
+    go none false none e = h (all-ready set 0 (close st d .station .slots) e)
+
+-- the invariant of the station
+
+pub record Inv (st : Station) : Type 0 where
+  pub good : All Good (st .slots)
+  pub runs : AllRuns (lastAt (st .last)) 0 (st .slots)
+  pub plan : FromBounds (λ w. 0) (st .slots)
+  pub safe : AllSafe (lastAt (st .last)) 0 (λ w. 0) (st .slots)
+
+-- the slots once the last job is closed
+pub record Mid (ss : List Slot) : Type 0 where
+  pub good : All Good ss
+  pub unspent : All Unspent ss
+  pub plan : FromBounds (λ w. 0) ss
+  pub safe : AllSafe no-one 0 (λ w. 0) ss
+
+each-plan : (h : ℕ → Slot → Slot) → ((k : ℕ) (s : Slot) → (h k s .row ≡ s .row) × (h k s .U ≡ s .U)) → (b : ℕ → ℕ) (i : ℕ) (ss : List Slot)
+    → FromBounds b ss → FromBounds b (each h i ss)
+each-plan h keep b i [] P = tt
+each-plan h keep b i (s ∷ ss) (P, Ps) =
+    rw (keep i s .0, keep i s .1) (P, each-plan h keep (λ w. b w + most (s .row) w) (suc i) ss Ps)
+
+-- close
+
+pub close-mid : (st : Station) (d : Bool) → Inv st → Mid (close st d .station .slots)
+close-mid st d I = record {
+  good = close-good st d (I .good);
+  unspent = close-unspent st d (I .runs);
+  plan = close-slots (FromBounds (λ w. 0)) (λ i ss. each-plan (λ k s. cond (eqb k i) (shut s) s) (λ k s. shut-keeps (eqb k i) s) (λ w. 0) 0 ss) st d (I .plan);
+  safe = on-close (λ c. AllSafe no-one 0 (λ w. 0) (c .station .slots)) st d (λ s. stays) (λ i how l e. close-safe (lastAt (row-at i)) 0 (λ w. 0) (λ w. 0) (λ w. zero-le) (st .slots) (rw l at (I .safe))) (λ t how l e. stays);
+}
+  where
+    stays : AllSafe no-one 0 (λ w. 0) (st .slots)
+    stays = weaken (lastAt (st .last)) 0 (λ w. 0) (λ w. 0) (λ w. zero-le) (st .slots) (I .safe)
+
+-- release
+
+pub released-keeps : (b : Bool) (s : Slot) → ((cond b (released s) s) .row ≡ s .row) × ((cond b (released s) s) .U ≡ s .U)
+released-keeps true s = (refl, refl)
+released-keeps false s = (refl, refl)
+
+pub released-good : (b : Bool) (s : Slot) → Good s → Good (cond b (released s) s)
+released-good true s G = record { C-pos = G .C-pos; U-le = G .U-le; D-le = G .D-le; age-le = zero-le }
+released-good false s G = G
+
+pub released-unspent : (b : Bool) (s : Slot) → Good s × Unspent s → Unspent (cond b (released s) s)
+released-unspent true s (G, N) r e = let z : 0 ≡ r = cc in omega (arith, G .C-pos)
+released-unspent false s (G, N) r e = N r e
+
+pub release-mid : (set : ℕ) (ss : List Slot) → AllReady (bit set) 0 ss → Mid ss → Mid (release set ss)
+release-mid set ss r M = record {
+  good = each-all Good Good (λ k s. cond (bit set k) (released s) s) (λ k s. released-good (bit set k) s) 0 ss (M .good);
+  unspent = each-all (λ s. Good s × Unspent s) Unspent (λ k s. cond (bit set k) (released s) s) (λ k s. released-unspent (bit set k) s) 0 ss
+      (all-both Good Unspent ss (M .good) (M .unspent));
+  plan = each-plan (λ k s. cond (bit set k) (released s) s) (λ k s. released-keeps (bit set k) s) (λ w. 0) 0 ss (M .plan);
+  safe = release-safe (bit set) 0 (λ w. 0) (λ w. 0) (λ w. zero-le) ss (M .good) r (M .safe);
+}
+
+-- choose
+
+-- the runner is the promoted job of the smallest row
+pub turn-found : (i k : ℕ) (ss : List Slot) → find (λ k s. promoted s) i ss ≡ some k → Turn (λ m. eqb m k) i ss
+turn-found i k [] e = tt
+turn-found i k (s ∷ ss) e = (λ p. here (rw p at e), λ p. turn-found (suc i) k ss (rw p at e))
+  where
+    here : _≡_ {A = Option ℕ} (some i) (some k) → (eqb i k ≡ true) × ((m : ℕ) → i < m → eqb m k ≡ false)
+    here q = let ik : i ≡ k = cc in (eq-eqb i k ik, λ m l. ne-eqb m k (λ z. omega arith))
+
+pub turn-none : (f : ℕ → Bool) (i : ℕ) (ss : List Slot) → find (λ k s. promoted s) i ss ≡ none → Turn f i ss
+turn-none f i [] e = tt
+turn-none f i (s ∷ ss) e =
+    let no = cond-none (promoted s) i (find (λ k s. promoted s) (suc i) ss) e in
+    (λ p. absurd (true≢false (sym p ∙ no .0)), λ p. turn-none f (suc i) ss (no .1))
+
+pub choose-turn : (ss : List Slot) (fs : List Firm) (wants : Bool) → Turn (lastAt (lastOf (choose ss fs wants))) 0 ss
+choose-turn ss fs wants = on-choose (λ r. Turn (lastAt (lastOf r)) 0 ss) ss fs wants
+    (λ k e. turn-found 0 k ss e)
+    (λ e f more q. turn-none (lastAt (firm-of (f .ticket))) 0 ss e)
+    (λ e q. turn-none (lastAt nobody) 0 ss e)
+    (λ e q best l. turn-none (lastAt (row-at (best .0))) 0 ss e)
+    (λ e q. turn-none (lastAt nobody) 0 ss e)
+
+-- run
+
+passed-runs : (b : Bool) (s : Slot) → Unspent s → Runs b (passed b s)
+passed-runs true s N = record { others = λ q. absurd (true≢false q); at-most = λ r e. go (s .job) refl r e }
+  where
+    go : (j : Job) → s .job ≡ j → (r : ℕ) → ranOnce j ≡ opened r → r ≤ s .row .C
+    go closed e r q = let z : _≡_ {A = ℕ} 0 1 = cc in absurd (omega arith)
+    go (opened q) e r q′ = let z : suc q ≡ r = cc in omega (arith, N q e)
+passed-runs false s N = record { others = λ q. N; at-most = λ r e. omega (arith, N r e) }
+
+pub passed-all : (f : ℕ → Bool) (i : ℕ) (ss : List Slot) → All Unspent ss → AllRuns f i (each (λ k s. passed (f k) s) i ss)
+passed-all f i [] N = tt
+passed-all f i (s ∷ ss) (N, Ns) = (passed-runs (f i) s N, passed-all f (suc i) ss Ns)
+
+pub run-inv : (st : Station) (ss : List Slot) (r : Runner) → Turn (lastAt (lastOf r)) 0 ss → Mid ss → Inv (run st ss r)
+run-inv st ss r t M = record {
+  good = each-all Good Good (λ k s. passed (lastAt (lastOf r) k) s) (λ k s. passed-good (lastAt (lastOf r) k) s) 0 ss (M .good);
+  runs = passed-all (lastAt (lastOf r)) 0 ss (M .unspent);
+  plan = each-plan (λ k s. passed (lastAt (lastOf r) k) s) (λ k s. (refl, refl)) (λ w. 0) 0 ss (M .plan);
+  safe = pass-safe (lastAt (lastOf r)) 0 (λ w. 0) (λ w. 0) (λ w. 0) (λ w. zero-le) (λ w. zero-le) ss (M .good) (M .unspent) (M .plan) t (M .safe);
+}
+
+pub tick-inv : (st : Station) (set : ℕ) (d wants : Bool) → Inv st → OnTicked (λ st′ a. Inv st′) (tick st set d wants)
+tick-inv st set d wants I = on-tick (λ st′ a. Inv st′) st set d wants (λ r.
+    let ss = release set (close st d .station .slots) in
+    run-inv (close st d .station) ss (choose ss (close st d .station .firms) wants)
+    (choose-turn ss (close st d .station .firms) wants)
+    (release-mid set (close st d .station .slots) r (close-mid st d I)))

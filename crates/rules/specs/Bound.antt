@@ -1,0 +1,63 @@
+-- Document 01, "Response bound and promotion": f, the iteration, R, the rounds and U; check 10. Assumes nothing.
+use Prim.Native.Nat.{ℕ, zero, suc, _+_, _-_, _*_, _/_}
+use mathlib.Core.Bool.{cond}
+use mathlib.Core.List.{List, [], _∷_}
+use lib.Dec.{ltb, eqb}
+use Rattle.rules.specs.Lists.{total, unless}
+use Rattle.rules.specs.Refusals.{passes-D, Refused, atRow}
+use Rattle.rules.specs.Rows.{Row, tableFault}
+
+abbrev pub ceil : ℕ → ℕ → ℕ
+ceil w T = (w + (T - 1)) / T
+
+-- what a row asks at most of w ticks
+abbrev pub most : Row → ℕ → ℕ
+most r w = ceil w (r .T) * r .C
+
+-- f of a row, given the rows above it
+abbrev pub f : List Row → Row → ℕ → ℕ
+f above r w = r .C + total (λ j. most j w) above
+
+pub data Bound : Type 0 where
+  bound : (R rounds : ℕ) → Bound
+  none-to-D : Bound
+
+-- the iteration, come to w after k rounds, with n more allowed
+abbrev pub iterate : List Row → Row → ℕ → ℕ → ℕ → Bound
+iterate above r zero k w = none-to-D
+iterate above r (suc n) k w =
+    cond (ltb (r .D) w) none-to-D
+    (cond (eqb (f above r w) w) (bound w (suc k))
+    (iterate above r n (suc k) (f above r w)))
+
+-- at most D − C + 1 rounds, from w = C
+abbrev pub response : List Row → Row → Bound
+response above r = iterate above r (suc (r .D - r .C)) 0 (r .C)
+
+-- the promotion time of a row whose bound is R
+abbrev pub promotion : Row → ℕ → ℕ
+promotion r R = r .D - R
+
+pub record PlannedRow : Type 0 where
+  pub row : Row
+  pub R : ℕ
+  pub rounds : ℕ
+
+pub data Plan : Type 0 where
+  planned : List PlannedRow → Plan
+  unplanned : Refused → Plan
+
+-- a row's bound before the plan of the rows below it
+abbrev pub withRow : Row → ℕ → Bound → Plan → Plan
+withRow r i none-to-D p = unplanned (atRow passes-D i)
+withRow r i (bound R rounds) (unplanned x) = unplanned x
+withRow r i (bound R rounds) (planned ps) = planned (record { row = r; R = R; rounds = rounds } ∷ ps)
+
+-- rows in order, 10 in each: i the position of the next row, above the rows before it, the nearest first
+unfoldable pub planRows : List Row → ℕ → List Row → Plan
+planRows above i [] = planned []
+planRows above i (r ∷ rs) = withRow r i (response above r) (planRows (r ∷ above) (suc i) rs)
+
+-- planning: 6 to 9, rows in order; then 10, rows in order
+unfoldable pub plan : List Row → Plan
+plan rs = unless (tableFault rs) unplanned (planRows [] 0 rs)
