@@ -1,19 +1,24 @@
 -- Reading and writing a table: what is accepted, and the round trip. Assumes nothing.
 use Prim.Native.Nat.{ℕ, _≤_}
-use mathlib.Core.Bool.{Bool, true, false, cond}
-use mathlib.Core.List.{List, [], _∷_, _++_}
+use mathlib.Core.Bool.{Bool, cond, false, true}
+use mathlib.Core.List.{List, [], _++_, _∷_}
 use mathlib.Core.Logic.{_↔_}
-use mathlib.Core.Path.{_≡_, refl, ap}
-use native.Mathlib.Omega.{arith}
+use mathlib.Core.Path.{ap, refl, _≡_}
+use borrow.Author.Tests.{le-ltb, ltb-false}
 use lib.Dec.{ltb}
-use lib.ListN.{length, take, drop, length-map}
-use borrow.Author.Tests.{ltb-false, le-ltb}
+use lib.ListN.{drop, length, length-map, take}
+use native.Mathlib.Omega.{arith}
+use Rattle.rules.specs.Lists.{All}
 use Rattle.rules.specs.Refusals.{Refusal, row-17, small-output}
 use Rattle.rules.specs.Rows.{Row}
-use Rattle.rules.specs.Bound.{PlannedRow, Plan, planned, unplanned, plan}
-use Rattle.rules.specs.File.{Scan, whole, broken, scan, read-as, unread, planScan, readScan, read, fileBytes, written, unwritten, put, writePlan, write}
-use Rattle.rules.specs.Tables.{Bytes, Accepted}
-use Rattle.rules.proofs.Plans.{rowsIn, planned-iff}
+use Rattle.rules.specs.Bound.{Plan, PlannedRow, plan, planned, unplanned}
+use Rattle.rules.specs.File.{Scan, broken, fileBytes, planScan, put, read, read-as, readScan, scan, unread, unwritten, whole, write, writePlan, written}
+use Rattle.rules.specs.Tables.{Accepted, Bytes, RowNarrow}
+use Rattle.rules.specs.Tick.{passed}
+use Rattle.rules.specs.Calls.{after}
+use Rattle.rules.specs.Image.{narrow}
+use Rattle.rules.proofs.Plans.{planned-iff, rowsIn}
+use Rattle.rules.proofs.Queue.{rest}
 use Rattle.rules.proofs.Scan.{scan-file, scan-whole}
 
 unread-not : (why : Refusal) (from size : ℕ) (ps : List PlannedRow) → unread why from size ≡ read-as ps → ⊥
@@ -102,13 +107,20 @@ write-file rs few ps e out l = rw (le-ltb 16 (length rs) few, e, le-ltb (length 
 
 -- the round trip
 
-pub written-read : (rs : List Row) (out : List ℕ) (n : ℕ) (after : List ℕ) → write rs out ≡ written n after
-    → (ps : List PlannedRow) × (read (take n after) ≡ read-as ps) × (rowsIn ps ≡ rs)
-written-read rs out n after e =
+file-bytes : (rs : List Row) → All RowNarrow rs → Bytes (fileBytes rs)
+file-bytes [] n = (omega arith, (omega arith, (omega arith, tt)))
+file-bytes (r ∷ rs) (n, ns) = (
+  omega arith,
+  (omega arith, (omega arith, (omega (arith, n), (omega (arith, n), (omega (arith, n), (omega (arith, n), (omega (arith, n), (omega (arith, n), (n .rank-lt, file-bytes rs ns))))))))),
+)
+
+pub written-read : (rs : List Row) → All RowNarrow rs → (out : List ℕ) (n : ℕ) (after : List ℕ) → write rs out ≡ written n after
+    → (ps : List PlannedRow) × (read (take n after) ≡ read-as ps) × (rowsIn ps ≡ rs) × Bytes (take n after)
+written-read rs narrow out n after e =
     let w = write-passed rs out n after e in
     let (ps, plans) = w .plan-is in
     let front : take n after ≡ fileBytes rs = rw (← (w .length-is), ← (w .output-is)) (take-append (fileBytes rs) (drop (length (fileBytes rs)) out)) in
-    (ps, rw front (read-file rs (w .few) ps plans), planned-iff rs ps .0 plans .rows-are)
+    (ps, rw front (read-file rs (w .few) ps plans), planned-iff rs ps .0 plans .rows-are, rw front (file-bytes rs narrow))
 
 pub read-written : (s : List ℕ) → Bytes s → (ps : List PlannedRow) → read s ≡ read-as ps → (out : List ℕ) → length s ≤ length out
     → (after : List ℕ) × (write (rowsIn ps) out ≡ written (length s) after) × (take (length s) after ≡ s)

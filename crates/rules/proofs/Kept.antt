@@ -4,8 +4,9 @@ use mathlib.Core.Bool.{Bool}
 use mathlib.Core.List.{List, []}
 use native.Mathlib.Omega.{arith}
 use Rattle.rules.specs.Lists.{All}
+use Rattle.rules.specs.Rows.{Row}
 use Rattle.rules.specs.Bound.{PlannedRow}
-use Rattle.rules.specs.Tables.{Bounds, RowOk}
+use Rattle.rules.specs.Tables.{Bounds, Planned, RowOk}
 use Rattle.rules.specs.Station.{Station, freshStation}
 use Rattle.rules.specs.Tick.{Ticked, no-tick, tick, ticked}
 use Rattle.rules.specs.Offer.{Offered, accepted, no-offer, offer}
@@ -47,3 +48,6 @@ call-kept st set flags K = on-call (λ st′ x. Kept st′) st set flags (tick-k
 
 pub fresh-kept : (ps : List PlannedRow) → All RowOk (rowsIn ps) → Bounds [] ps → Kept (freshStation ps)
 fresh-kept ps ok s = record { inv = fresh-inv ps ok s; firms = tt; tickets = record { few = omega arith; next-lt = omega arith; to-next = tt; first = tt } }
+
+pub planned-kept : (rs : List Row) (ps : List PlannedRow) → Planned rs ps → Kept (freshStation ps)
+planned-kept rs ps x = fresh-kept ps (rw (x .rows-are) (x .rows-ok)) (x .bounds)

@@ -32,3 +32,4 @@ pub mod Demand3
 pub mod Time
 pub mod LastRan
 pub mod Image
+pub mod Results

@@ -10,6 +10,6 @@ tables = record {
   planned-iff = planned-iff;
   nothing-below = nothing-below;
   read-iff = read-iff;
-  written-read = λ rs narrow. written-read rs;
+  written-read = written-read;
   read-written = read-written;
 }

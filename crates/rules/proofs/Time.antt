@@ -1,7 +1,7 @@
 -- True time: the station's clock, tickets and ages are what the calls and replies so far say. Assumes nothing.
 use Prim.Native.Nat.{min, suc, ℕ, _%_, _+_, _-_, _^_, _≤_}
 use mathlib.Core.Bool.{Bool, cond, false, true, true≢false, _&&_}
-use mathlib.Core.List.{List, [], _∷_}
+use mathlib.Core.List.{List, [], map, _∷_}
 use mathlib.Core.Option.{Option, none, some}
 use mathlib.Core.Path.{ap, refl, sym, _∙_, _≡_}
 use borrow.Author.Tests.{eq-eqb, le-leb, leb-false, leb-true, ne-eqb}
@@ -10,7 +10,8 @@ use lib.ListN.{getElem?}
 use native.Mathlib.Nat.{add-suc, add-zero, le-refl, suc-add, zero-add}
 use native.Mathlib.Omega.{arith}
 use Rattle.rules.specs.Lists.{All}
-use Rattle.rules.specs.Station.{Job, Slot, Station, closed, hold, isOpen, rested, wait}
+use Rattle.rules.specs.Bound.{PlannedRow}
+use Rattle.rules.specs.Station.{Job, Slot, Station, closed, freshSlot, freshStation, hold, isOpen, rested, wait}
 use Rattle.rules.specs.Tick.{Ticked, bit, choose, close, lastAt, lastOf, no-tick, passed, ranOnce, release, released, shut, tick, ticked}
 use Rattle.rules.specs.Offer.{Offered, accepted, no-offer, offer}
 use Rattle.rules.specs.Calls.{Call, acceptances, after, afterOffer, afterTick, doneFlag, lastRelease, offer-call, replies, softFlag, tick-call, tickCall, ticks}
@@ -162,3 +163,10 @@ true-time start K U = record {
     A : (before : List Call) → At (ticks (replies start before)) (acceptances (replies start before)) (λ k. lastRelease k 0 none before (replies start before)) (after start before)
     A before = rw (zero-add (ticks (replies start before)), zero-add (acceptances (replies start before))) at
         (at-after before 0 0 (λ k. none) start (record { clock-is = U .no-tick-yet; next-is = U .no-ticket-yet; rows-stand = starts 0 (start .slots) (U .all-rested) }))
+
+pub fresh-untouched : (ps : List PlannedRow) → Untouched (freshStation ps)
+fresh-untouched ps = record { no-tick-yet = refl; no-ticket-yet = refl; all-rested = go ps }
+  where
+    go : (ps : List PlannedRow) → All (λ s. (s .age ≡ hold (s .row)) × (s .job ≡ closed)) (map freshSlot ps)
+    go [] = tt
+    go (p ∷ ps) = ((refl, refl), go ps)

@@ -6,6 +6,7 @@ use mathlib.Core.Logic.{_⊎_}
 use mathlib.Core.Option.{Option, none, some}
 use mathlib.Core.Path.{_≡_}
 use lib.Dec.{eqb, leb}
+use Rattle.rules.specs.Lists.{All}
 use Rattle.rules.specs.Refusals.{unknown-flag, Refused, refusal}
 use Rattle.rules.specs.Station.{Station}
 use Rattle.rules.specs.Tick.{Runner, hard, firm, soft, idle, Closing, Answer, bit, Ticked, ticked, no-tick, tick}
@@ -138,5 +139,4 @@ Short (tick-call set flags) = (set < 2 ^ 16) × (flags < 2 ^ 8)
 Short (offer-call B d) = (B < 2 ^ 16) × (d < 2 ^ 16)
 
 abbrev pub AllShort : List Call → Type 0
-AllShort [] = Unit {0}
-AllShort (c ∷ cs) = Short c × AllShort cs
+AllShort cs = All Short cs

@@ -23,7 +23,8 @@ abbrev pub OnOffered : (Station → ℕ → Type 0) → Offered → Type 0
 OnOffered P (accepted st t) = P st t
 OnOffered P (no-offer why) = Unit {0}
 
--- DEMAND 3, a hard job. A tick released the row r at position k and gave the answer x; st is the station after it. Whatever calls follow:
+-- DEMAND 3, a hard job. A tick released the row r at position k and gave the answer x; st is the station after it.
+-- Whatever calls follow, and so also those up to the D-th tick and no further:
 pub record HardPromise (k : ℕ) (r : Row) (st : Station) (x : Answer) : Type 0 where
   -- when D ticks have been stepped from the release on, C of their answers have named the row, or a later one reported the job done
   pub in-time : (later : List Call) → deadline r ≤ ticks (answered x ∷ replies st later)
@@ -31,7 +32,8 @@ pub record HardPromise (k : ℕ) (r : Row) (st : Station) (x : Answer) : Type 0 
   -- up to the next release of the row, no more than C name it
   pub never-more : (later : List Call) → releases k later (replies st later) ≡ 0 → count (namesRow k) (answered x ∷ replies st later) ≤ r .C
 
--- DEMAND 3, an upload. An offer of budget B and deadline d was accepted with the ticket t; st is the station after it. Whatever calls follow:
+-- DEMAND 3, an upload. An offer of budget B and deadline d was accepted with the ticket t; st is the station after it.
+-- Whatever calls follow, and so also those up to the d-th tick and no further:
 pub record UploadPromise (B d : ℕ) (st : Station) (t : ℕ) : Type 0 where
   -- when d ticks have been stepped from the acceptance on, B of their answers have named the ticket, or one reported the upload done
   pub in-time : (later : List Call) → d ≤ ticks (replies st later)

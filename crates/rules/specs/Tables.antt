@@ -89,9 +89,9 @@ pub record TablePromises : Type 0 where
   pub nothing-below : (rs below : List Row) (ps qs : List PlannedRow) → plan rs ≡ planned ps → plan (rs ++ below) ≡ planned qs → take (length rs) qs ≡ ps
   -- a file is accepted exactly when checks 1 to 10 pass
   pub read-iff : (s : List ℕ) → Bytes s → (ps : List PlannedRow) → (read s ≡ read-as ps) ↔ Accepted s ps
-  -- a table written and read again is the same table
+  -- a table written and read again is the same table; what is written is bytes
   pub written-read : (rs : List Row) → All RowNarrow rs → (out : List ℕ) (n : ℕ) (after : List ℕ) → write rs out ≡ written n after
-      → (ps : List PlannedRow) × (read (take n after) ≡ read-as ps) × (map (λ p. p .row) ps ≡ rs)
+      → (ps : List PlannedRow) × (read (take n after) ≡ read-as ps) × (map (λ p. p .row) ps ≡ rs) × Bytes (take n after)
   -- an accepted file is written back to the same bytes
   pub read-written : (s : List ℕ) → Bytes s → (ps : List PlannedRow) → read s ≡ read-as ps → (out : List ℕ) → length s ≤ length out
       → (after : List ℕ) × (write (map (λ p. p .row) ps) out ≡ written (length s) after) × (take (length s) after ≡ s)

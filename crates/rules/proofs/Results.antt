@@ -1,0 +1,37 @@
+-- The results: of every table and every list of calls. Each type stands in specs/ with its plain words; docs/promises.md lists them. Assumes nothing.
+use Prim.Native.Nat.{min, ℕ, _+_, _≤_}
+use mathlib.Core.List.{List}
+use mathlib.Core.Path.{_∙_, _≡_}
+use Rattle.rules.specs.Lists.{sum}
+use Rattle.rules.specs.Rows.{Row}
+use Rattle.rules.specs.Bound.{plan}
+use Rattle.rules.specs.Tables.{TablePromises}
+use Rattle.rules.specs.Station.{OnFresh, Slot, freshStation}
+use Rattle.rules.specs.Offer.{futureClaim, leaves}
+use Rattle.rules.specs.Promise.{Demand3, NeverOpen, TrueTime}
+use Rattle.rules.proofs.Claims.{endless}
+use Rattle.rules.proofs.Demand3.{demand3, never-open}
+use Rattle.rules.proofs.Fresh.{fresh-rows, on-fresh}
+use Rattle.rules.proofs.Kept.{planned-kept}
+use Rattle.rules.proofs.Tables.{tables}
+use Rattle.rules.proofs.Time.{fresh-untouched, true-time}
+
+-- tables and their files
+pub table-promises : TablePromises
+table-promises = tables
+
+-- demand 3, from the fresh station of any table that is planned
+pub demand-3 : (rs : List Row) → OnFresh (Demand3 rs) (plan rs)
+demand-3 rs = on-fresh (Demand3 rs) rs (λ ps x. demand3 rs (freshStation ps) (planned-kept rs ps x) (fresh-rows ps ∙ x .rows-are))
+
+-- ages, promotions, clock and tickets are true time
+pub in-true-time : (rs : List Row) → OnFresh TrueTime (plan rs)
+in-true-time rs = on-fresh TrueTime rs (λ ps x. true-time (freshStation ps) (planned-kept rs ps x) (fresh-untouched ps))
+
+-- the second half of refusal 14 is never met
+pub never-open-rested : (rs : List Row) → OnFresh NeverOpen (plan rs)
+never-open-rested rs = on-fresh NeverOpen rs (λ ps x. never-open (freshStation ps) (planned-kept rs ps x))
+
+-- the room test's sum over k = 0, 1, 2, ..: any further terms are 0
+pub sum-goes-on : (s : Slot) → 1 ≤ s .row .T → (d more : ℕ) → sum (d + more) (λ k. min (s .row .C) (leaves s d k)) ≡ futureClaim s d
+sum-goes-on = endless
