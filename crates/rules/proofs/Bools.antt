@@ -1,9 +1,9 @@
 -- Tests joined by and, or, and the first of several answers. Assumes nothing.
 use Prim.Native.Nat.{ℕ}
-use mathlib.Core.Bool.{Bool, true, false, not, cond, _&&_, _||_, false≢true, true≢false}
-use mathlib.Core.Logic.{_⊎_, inl, inr}
+use mathlib.Core.Bool.{Bool, cond, false, false≢true, true, true≢false, _&&_, _||_}
+use mathlib.Core.Logic.{inl, inr, _↔_, _⊎_}
 use mathlib.Core.Option.{Option, none, some}
-use mathlib.Core.Path.{_≡_, refl}
+use mathlib.Core.Path.{refl, _≡_}
 use native.Mathlib.Omega.{arith}
 
 pub and-true : (a b : Bool) → (a && b) ≡ true → (a ≡ true) × (b ≡ true)
@@ -24,6 +24,17 @@ or-false false b e = (refl, e)
 pub not-true-is : (a : Bool) → (a ≡ true → ⊥) → a ≡ false
 not-true-is true h = absurd (h refl)
 not-true-is false h = refl
+
+-- two tests joined, and what they say
+pub and-iff : {a b : Bool} {P Q : Type 0} → ((a ≡ true) ↔ P) → ((b ≡ true) ↔ Q) → ((a && b) ≡ true) ↔ (P × Q)
+and-iff {a} {b} p q = (
+  λ e. let both = and-true a b e in (p .0 (both .0), q .0 (both .1)),
+  λ (x, y). true-and (p .1 x) (q .1 y),
+)
+
+pub or-iff : (a b : Bool) {P Q : Type 0} → ((a ≡ true) ↔ P) → ((b ≡ true) ↔ Q) → ((a || b) ≡ true) ↔ (P ⊎ Q)
+or-iff true b p q = (λ e. inl (p .0 refl), λ x. refl)
+or-iff false b p q = (λ e. inr (q .0 e), elim [ inl x ↦ absurd (false≢true (p .1 x)) | inr y ↦ q .1 y ])
 
 module _ {A : Type 0} where
   pub none-some : {a : A} → _≡_ {A = Option A} none (some a) → ⊥

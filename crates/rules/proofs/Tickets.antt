@@ -24,7 +24,7 @@ apart : (next d c : ℕ) → next < 2 ^ 32 → d ≤ 8 → c < d → (next + (2 
 apart next d c l h k e = omega arith
 
 -- the ticket at distance d is not among those behind it
-behind : (t d next : ℕ) → next < 2 ^ 32 → d ≤ 8 → t ≡ (next + (2 ^ 32 - d)) % 2 ^ 32 → (fs : List Firm) → length fs < d → TicketsTo next fs → All (Other t) fs
+pub behind : (t d next : ℕ) → next < 2 ^ 32 → d ≤ 8 → t ≡ (next + (2 ^ 32 - d)) % 2 ^ 32 → (fs : List Firm) → length fs < d → TicketsTo next fs → All (Other t) fs
 behind t d next l h e [] k T = tt
 behind t d next l h e (f ∷ fs) k (q, T) = (λ z. apart next d (suc (length fs)) l h k (sym e ∙ sym z ∙ q), behind t d next l h e fs (omega arith) T)
 

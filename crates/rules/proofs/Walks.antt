@@ -1,15 +1,17 @@
 -- Laws of the functions that walk a list with positions: everywhere, and at one position. Assumes nothing.
 use Prim.Native.Nat.{suc, zero, ℕ, _+_, _≤_}
-use mathlib.Core.Bool.{Bool, true}
+use mathlib.Core.Bool.{Bool, false≢true, true, _&&_}
 use mathlib.Core.List.{List, [], map, _++_, _∷_}
-use mathlib.Core.Logic.{inl, inr, _⊎_}
+use mathlib.Core.Logic.{inl, inr, _↔_, _⊎_}
 use mathlib.Core.Option.{some}
 use mathlib.Core.Path.{ap, refl, sym, _≡_}
+use borrow.Author.Tests.{eq-eqb, eqb-true}
+use lib.Dec.{eqb}
 use lib.ListN.{getElem?, length}
 use native.Mathlib.Nat.{add-suc, add-zero, suc-add}
 use native.Mathlib.Omega.{arith}
-use Rattle.rules.specs.Lists.{All, each, every}
-use Rattle.rules.proofs.Bools.{and-true, none-some, some-eq, true-and}
+use Rattle.rules.specs.Lists.{All, any, each, every}
+use Rattle.rules.proofs.Bools.{and-iff, and-true, none-some, or-iff, some-eq, true-and}
 
 module _ {A : Type 0} where
   -- the list has a position k, counted from i, and P of its element
@@ -112,12 +114,23 @@ module _ {A : Type 0} where
 
   -- tests
 
-  pub every-all : (t : A → Bool) (i : ℕ) (l : List A) → every (λ k a. t a) i l ≡ true → All (λ a. t a ≡ true) l
+  every-all : (t : A → Bool) (i : ℕ) (l : List A) → every (λ k a. t a) i l ≡ true → All (λ a. t a ≡ true) l
   every-all t i [] e = tt
   every-all t i (a ∷ l) e =
       let both = and-true (t a) (every (λ k a. t a) (suc i) l) e in
       (both .0, every-all t (suc i) l (both .1))
 
-  pub all-every : (t : A → Bool) (i : ℕ) (l : List A) → All (λ a. t a ≡ true) l → every (λ k a. t a) i l ≡ true
+  all-every : (t : A → Bool) (i : ℕ) (l : List A) → All (λ a. t a ≡ true) l → every (λ k a. t a) i l ≡ true
   all-every t i [] x = refl
   all-every t i (a ∷ l) (x, xs) = true-and x (all-every t (suc i) l xs)
+
+  pub every-iff : (t : A → Bool) (P : A → Type 0) → ((a : A) → (t a ≡ true) ↔ P a) → (i : ℕ) (l : List A) → (every (λ k a. t a) i l ≡ true) ↔ All P l
+  every-iff t P h i l = (
+    λ e. all-imp (λ a. t a ≡ true) P (λ a. h a .0) l (every-all t i l e),
+    λ x. all-every t i l (all-imp P (λ a. t a ≡ true) (λ a. h a .1) l x),
+  )
+
+  -- the test of one position
+  pub any-iff : (t : A → Bool) (P : A → Type 0) → ((a : A) → (t a ≡ true) ↔ P a) → (k i : ℕ) (l : List A) → (any (λ j a. eqb j k && t a) i l ≡ true) ↔ Holds P k i l
+  any-iff t P h k i [] = (λ e. false≢true e, λ x. absurd x)
+  any-iff t P h k i (a ∷ l) = or-iff (eqb i k && t a) (any (λ j a. eqb j k && t a) (suc i) l) (and-iff (eqb-true i k, eq-eqb i k) (h a)) (any-iff t P h k (suc i) l)
