@@ -3,10 +3,10 @@ use Prim.Native.Nat.{ℕ, _≤_}
 use mathlib.Core.Bool.{Bool, cond, false, true}
 use mathlib.Core.List.{List, [], _++_, _∷_}
 use mathlib.Core.Logic.{_↔_}
-use mathlib.Core.Path.{ap, refl, _≡_}
+use mathlib.Core.Path.{ap, refl, sym, _≡_}
 use borrow.Author.Tests.{le-ltb, ltb-false}
 use lib.Dec.{ltb}
-use lib.ListN.{drop, length, length-map, take}
+use lib.ListN.{drop, length, length-append, length-drop, length-map, take}
 use native.Mathlib.Omega.{arith}
 use Rattle.rules.specs.Lists.{All}
 use Rattle.rules.specs.Refusals.{Refusal, row-17, small-output}
@@ -73,20 +73,22 @@ read-iff s h ps = (read-accepted s h ps, accepted-read s ps)
 
 -- writing
 
-put-written : (bytes out : List ℕ) (n : ℕ) (after : List ℕ) → put bytes out ≡ written n after → (length bytes ≡ n) × (bytes ++ drop (length bytes) out ≡ after)
-put-written bytes out n after = go (ltb (length out) (length bytes))
+put-written : (bytes out : List ℕ) (n : ℕ) (after : List ℕ) → put bytes out ≡ written n after
+    → (length bytes ≡ n) × (bytes ++ drop (length bytes) out ≡ after) × (length bytes ≤ length out)
+put-written bytes out n after = go (ltb (length out) (length bytes)) refl
   where
-    go : (b : Bool) → cond b (unwritten small-output) (written (length bytes) (bytes ++ drop (length bytes) out)) ≡ written n after
-        → (length bytes ≡ n) × (bytes ++ drop (length bytes) out ≡ after)
-    go true e = absurd (unwritten-not small-output n after e)
-    go false e = (cc, cc)
+    go : (b : Bool) → ltb (length out) (length bytes) ≡ b → cond b (unwritten small-output) (written (length bytes) (bytes ++ drop (length bytes) out)) ≡ written n after
+        → (length bytes ≡ n) × (bytes ++ drop (length bytes) out ≡ after) × (length bytes ≤ length out)
+    go true q e = absurd (unwritten-not small-output n after e)
+    go false q e = (cc, cc, ltb-false (length out) (length bytes) q)
 
--- a table that is written has at most 16 rows, is planned, and stands at the front of the output
+-- a table that is written has at most 16 rows, is planned, and stands at the front of an output that is long enough
 pub record WrittenAs (rs : List Row) (out : List ℕ) (n : ℕ) (after : List ℕ) : Type 0 where
   pub few : length rs ≤ 16
   pub plan-is : (ps : List PlannedRow) × (plan rs ≡ planned ps)
   pub length-is : length (fileBytes rs) ≡ n
   pub output-is : fileBytes rs ++ drop (length (fileBytes rs)) out ≡ after
+  pub enough : length (fileBytes rs) ≤ length out
 
 pub write-passed : (rs : List Row) (out : List ℕ) (n : ℕ) (after : List ℕ) → write rs out ≡ written n after → WrittenAs rs out n after
 unfolding write
@@ -97,8 +99,8 @@ write-passed rs out n after = go (ltb 16 (length rs)) refl (plan rs) refl
     go true q p r e = absurd (unwritten-not row-17 n after e)
     go false q (unplanned x) r e = absurd (unwritten-not (x .why) n after e)
     go false q (planned ps) r e =
-        let (length-is, output-is) = put-written (fileBytes rs) out n after e in
-        record { few = ltb-false 16 (length rs) q; plan-is = (ps, r); length-is = length-is; output-is = output-is }
+        let (length-is, output-is, enough) = put-written (fileBytes rs) out n after e in
+        record { few = ltb-false 16 (length rs) q; plan-is = (ps, r); length-is = length-is; output-is = output-is; enough = enough }
 
 pub write-file : (rs : List Row) → length rs ≤ 16 → (ps : List PlannedRow) → plan rs ≡ planned ps → (out : List ℕ) → length (fileBytes rs) ≤ length out
     → write rs out ≡ written (length (fileBytes rs)) (fileBytes rs ++ drop (length (fileBytes rs)) out)
@@ -131,3 +133,18 @@ read-written s h ps e out l =
     let plans = planned-iff rs ps .1 (a .plan-is) in
     rw (a .bytes-are)
     (fileBytes rs ++ rest, write-file rs (few-rows s ps a) ps plans out (rw (a .bytes-are) at l), take-append (fileBytes rs) rest)
+
+drop-append : (l m : List ℕ) → drop (length l) (l ++ m) ≡ m
+drop-append [] m = refl
+drop-append (a ∷ l) m = drop-append l m
+
+pub rest-stays : (rs : List Row) (out : List ℕ) (n : ℕ) (after : List ℕ) → write rs out ≡ written n after
+    → (n ≡ length (fileBytes rs)) × (length after ≡ length out) × (drop n after ≡ drop n out)
+rest-stays rs out n after e =
+    let w = write-passed rs out n after e in
+    let bytes = fileBytes rs in
+    let size = length-append bytes (drop (length bytes) out) in (
+      sym (w .length-is),
+      rw (← (w .output-is)) (omega (arith, size, length-drop (length bytes) out, w .enough)),
+      rw (← (w .length-is), ← (w .output-is)) (drop-append bytes (drop (length bytes) out)),
+    )

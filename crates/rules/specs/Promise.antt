@@ -1,4 +1,4 @@
--- The promises over calls, as types: demand 3; true time; that the second half of refusal 14 is never met. Assumes nothing.
+-- The promises over calls, as types: demand 3; done is told; true time; that the second half of refusal 14 is never met. Assumes nothing.
 use Prim.Native.Nat.{ℕ, _+_, _-_, _%_, _^_, _≤_, min}
 use mathlib.Core.Bool.{Bool, true, false, cond, _&&_}
 use mathlib.Core.List.{List, [], _∷_}
@@ -9,7 +9,7 @@ use lib.Dec.{leb}
 use lib.ListN.{getElem?}
 use Rattle.rules.specs.Rows.{Row, deadline}
 use Rattle.rules.specs.Station.{closed, Slot, Station, hold, rested, isOpen, promoted}
-use Rattle.rules.specs.Tick.{done, hard-job, firm-job, Answer, bit, close, release, Ticked, ticked, no-tick}
+use Rattle.rules.specs.Tick.{done, closedAs, tick, hard-job, firm-job, Answer, bit, close, release, Ticked, ticked, no-tick}
 use Rattle.rules.specs.Offer.{Offered, accepted, no-offer, offer}
 use Rattle.rules.specs.Calls.{Call, tickCall, Reply, answered, replies, after, count, ticks, namesRow, namesTicket, Reported, acceptances, returns, releases, lastRelease}
 
@@ -47,6 +47,10 @@ pub record Demand3 (rs : List Row) (start : Station) : Type 0 where
   pub hard-jobs : (before : List Call) (set flags k : ℕ) (r : Row) → bit set k ≡ true → getElem? rs k ≡ some r
       → OnTicked (HardPromise k r) (tickCall (after start before) set flags)
   pub uploads : (before : List Call) (B d : ℕ) → OnOffered (UploadPromise B d) (offer (after start before) B d)
+
+-- DONE IS TOLD. Of any station: a tick reports a job done only if its done flag says so. A job whose ticks are gone is reported spent.
+abbrev pub DoneIsTold : Station → Type 0
+DoneIsTold st = (set : ℕ) (d wants : Bool) → OnTicked (λ st′ x. closedAs (x .closing) ≡ some done → d ≡ true) (tick st set d wants)
 
 -- True time, of a row: now is the number of ticks stepped, release the tick of the row's last release, if it was ever released.
 

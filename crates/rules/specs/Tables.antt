@@ -5,7 +5,7 @@ use mathlib.Core.List.{List, [], _∷_, _++_, map}
 use mathlib.Core.Logic.{_↔_}
 use mathlib.Core.Path.{_≡_}
 use lib.Dec.{eqb}
-use lib.ListN.{length, take}
+use lib.ListN.{length, take, drop}
 use Rattle.rules.specs.Lists.{All, total}
 use Rattle.rules.specs.Rows.{Row}
 use Rattle.rules.specs.Bound.{f, Bound, bound, none-to-D, response, PlannedRow, planned, plan}
@@ -92,6 +92,9 @@ pub record TablePromises : Type 0 where
   -- a table written and read again is the same table; what is written is bytes
   pub written-read : (rs : List Row) → All RowNarrow rs → (out : List ℕ) (n : ℕ) (after : List ℕ) → write rs out ≡ written n after
       → (ps : List PlannedRow) × (read (take n after) ≡ read-as ps) × (map (λ p. p .row) ps ≡ rs) × Bytes (take n after)
+  -- success returns the length of what is written, and bytes after it stay
+  pub rest-stays : (rs : List Row) (out : List ℕ) (n : ℕ) (after : List ℕ) → write rs out ≡ written n after
+      → (n ≡ length (fileBytes rs)) × (length after ≡ length out) × (drop n after ≡ drop n out)
   -- an accepted file is written back to the same bytes
   pub read-written : (s : List ℕ) → Bytes s → (ps : List PlannedRow) → read s ≡ read-as ps → (out : List ℕ) → length s ≤ length out
       → (after : List ℕ) × (write (map (λ p. p .row) ps) out ≡ written (length s) after) × (take (length s) after ≡ s)

@@ -26,6 +26,11 @@ pub data Closing : Type 0 where
   hard-job : ℕ → How → Closing
   firm-job : ℕ → How → Closing
 
+abbrev pub closedAs : Closing → Option How
+closedAs nothing = none
+closedAs (hard-job k how) = some how
+closedAs (firm-job t how) = some how
+
 -- the answer: the clock as the tick found it, who runs, and what closed
 pub record Answer : Type 0 where
   pub at : ℕ

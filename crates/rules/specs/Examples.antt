@@ -1,0 +1,158 @@
+-- An example of every refusal, and of the order in which document 01 asks: a companion to the figures. Assumes nothing.
+-- Rows are counted from 1 here, as in document 01, and 0 stands for no row.
+use Prim.Native.Nat.{suc, zero, ℕ}
+use mathlib.Core.Bool.{not}
+use mathlib.Core.List.{List, [], map, _++_, _∷_}
+use mathlib.Core.Option.{none}
+use mathlib.Core.Path.{_≡_}
+use lib.Dec.{eqb}
+use lib.ListN.{length, replicate}
+use Rattle.rules.specs.Lists.{any, firstOf}
+use Rattle.rules.specs.File.{rowBytes}
+use Rattle.rules.specs.Station.{Job, Last, Station, closed, firm-of, freshSlot, freshStation, nobody, opened, row-at, withJob}
+use Rattle.rules.specs.Tick.{done, hard, hard-job, lower, run, soft, spent}
+use Rattle.rules.specs.Calls.{after, offer-call, tick-call}
+use Rattle.rules.specs.Figures.{AllHold, Asked, Figures, Found, R-and-U, atClock2, block-of, call-on, event-of, file-of, output-of, passes, ran, refuses, row, shows, stationA, tableA, ticket, values}
+
+-- a table's file shows its middle part; an event shows the first part of the bytes left
+
+abbrev pub file-shows : ℕ → List ℕ → List ℕ → List ℕ → Asked × Found
+file-shows n before part after = (file-of (before ++ (part ++ after)), shows n (length before) (length part) part)
+
+abbrev pub event-shows : ℕ → List ℕ → List ℕ → Asked × Found
+event-shows n part after = (event-of (part ++ after), shows n 0 (length part) part)
+
+abbrev pub rowField : ℕ → ℕ → ℕ → ℕ → List ℕ
+rowField C D T rank = rowBytes (row C D T rank)
+
+abbrev pub endField : List ℕ
+endField = 0x0f ∷ 0x00 ∷ 0x00 ∷ []
+
+-- so many rows with C = 0
+abbrev pub zeroRows : ℕ → List ℕ
+zeroRows zero = []
+zeroRows (suc n) = rowField 0 0 0 0 ++ zeroRows n
+
+-- on the empty table: 8 firm jobs of one tick each
+abbrev pub fullQueue : Station
+fullQueue = after (freshStation []) (replicate 8 (offer-call 1 8))
+
+-- a station whose table is the first row of A, planned with the bound R; and one with an empty table, and firm jobs of a ticket, a budget and ticks run
+
+abbrev pub oneRow : ℕ → ℕ → Job → Last → Station
+oneRow R age job last =
+    let slot = withJob (freshSlot (record { row = row 2 6 8 0; R = R; rounds = 1 })) age job in
+    record { clock = 100; slots = slot ∷ []; firms = []; next = 0; last = last }
+
+abbrev pub queueOf : List (ℕ × ℕ × ℕ) → ℕ → Last → Station
+queueOf jobs next last =
+    record { clock = 100; slots = []; firms = map (λ j. record { ticket = j .0; budget = j .1; run = j .2 }) jobs; next = next; last = last }
+
+abbrev pub refusals : Figures
+refusals =
+    -- 1: no end field; two bytes left; a value cut. Asked before the tag, before the flags, and before 6 of any row
+    file-shows 1 [] [] []
+    ∷ file-shows 1 (rowField 2 6 8 0) (0x0f ∷ 0x00 ∷ []) []
+    ∷ file-shows 1 (rowField 2 6 8 0) (0x01 ∷ 0x00 ∷ 0x07 ∷ 0x00 ∷ 0x05 ∷ []) []
+    ∷ file-shows 1 [] (0x7f ∷ 0x00 ∷ []) []
+    ∷ file-shows 1 (rowField 0 6 8 0) [] []
+    ∷ event-shows 1 (0x22 ∷ 0x00 ∷ []) []
+    ∷ event-shows 1 (0x21 ∷ 0x00 ∷ 0x03 ∷ 0x00 ∷ 0x04 ∷ []) []
+    -- 2, before the length and before a cut value
+    ∷ file-shows 2 (rowField 2 6 8 0) (0x02 ∷ 0x00 ∷ 0x07 ∷ []) endField
+    ∷ file-shows 2 [] (0x21 ∷ 0x00 ∷ 0x09 ∷ []) []
+    ∷ event-shows 2 (0x01 ∷ 0x00 ∷ 0x09 ∷ []) []
+    -- 3, before a 17th row, before a cut value, and before 4
+    ∷ file-shows 3 (zeroRows 16) (0x01 ∷ 0x00 ∷ 0x08 ∷ []) []
+    ∷ file-shows 3 [] (0x0f ∷ 0x00 ∷ 0x01 ∷ []) (0x00 ∷ 0x00 ∷ [])
+    ∷ event-shows 3 (0x21 ∷ 0x00 ∷ 0x04 ∷ []) (0x00 ∷ 0x00 ∷ 0x00 ∷ 0x00 ∷ [])
+    ∷ event-shows 3 (0x22 ∷ 0x00 ∷ 0x03 ∷ []) []
+    -- 4, before 6 of any row
+    ∷ file-shows 4 endField (0x00 ∷ []) []
+    ∷ file-shows 4 (rowField 0 6 8 0 ++ endField) (rowField 2 6 8 0 ++ endField) []
+    -- 5, before a cut value and before 6 of any row; writing, before 6 and 19
+    ∷ file-shows 5 (zeroRows 16) (0x01 ∷ 0x00 ∷ 0x07 ∷ []) (0x00 ∷ [])
+    ∷ file-shows 5 (zeroRows 16) (0x01 ∷ 0x00 ∷ 0x07 ∷ []) (0x00 ∷ 0x02 ∷ 0x00 ∷ 0x06 ∷ 0x00 ∷ 0x08 ∷ 0x00 ∷ endField)
+    ∷ (output-of (replicate 17 (row 0 0 0 0)) 0, refuses 5 0)
+    -- 6, before 8 and 9 in its row, and before 10 of a row above; writing, before 19
+    ∷ file-shows 6 [] (rowField 0 6 5 9) endField
+    ∷ file-shows 6 (rowField 2 4 4 0 ++ rowField 3 4 4 1) (rowField 0 4 4 2) endField
+    ∷ (output-of (row 0 6 8 0 ∷ []) 0, refuses 6 0)
+    -- 7, before 8 and 9; 8, before 9
+    ∷ file-shows 7 [] (rowField 6 5 4 9) endField
+    ∷ file-shows 8 [] (rowField 2 6 5 9) endField
+    -- 9: rank 2 of 2 rows; a rank used above. Before 6 of a row below
+    ∷ file-shows 9 (rowField 2 6 8 0) (rowField 5 12 12 2) endField
+    ∷ file-shows 9 (rowField 2 6 8 0) (rowField 5 12 12 0) endField
+    ∷ file-shows 9 [] (rowField 2 6 8 2) (rowField 0 12 12 1 ++ endField)
+    -- 10, of the first such row; writing, before 19
+    ∷ file-shows 10 (rowField 2 4 4 0) (rowField 3 4 4 1) endField
+    ∷ file-shows 10 (rowField 2 4 4 0) (rowField 3 4 4 1) (rowField 4 4 4 2 ++ endField)
+    ∷ (output-of (row 2 4 4 0 ∷ row 3 4 4 1 ∷ []) 0, refuses 10 0)
+    -- 11: U above D − C; an age above T; run more than C; fully run, and not the last runner; the last runner not run; not open; and nothing wrong
+    ∷ (block-of (oneRow 1 3 (opened 1) (row-at 0)), refuses 11 0)
+    ∷ (block-of (oneRow 2 9 (opened 1) (row-at 0)), refuses 11 0)
+    ∷ (block-of (oneRow 2 3 (opened 3) (row-at 0)), refuses 11 0)
+    ∷ (block-of (oneRow 2 3 (opened 2) nobody), refuses 11 0)
+    ∷ (block-of (oneRow 2 3 (opened 0) (row-at 0)), refuses 11 0)
+    ∷ (block-of (oneRow 2 3 closed (row-at 0)), refuses 11 0)
+    ∷ (block-of (oneRow 2 3 (opened 2) (row-at 0)), passes)
+    -- 11: budget 0; a gap in the tickets; not up to the next; 9 jobs; fully run, and not the last runner; the last runner not the first; and nothing wrong
+    ∷ (block-of (queueOf ((0, 0, 0) ∷ []) 1 nobody), refuses 11 0)
+    ∷ (block-of (queueOf ((0, 3, 1) ∷ (2, 1, 0) ∷ []) 3 (firm-of 0)), refuses 11 0)
+    ∷ (block-of (queueOf ((0, 3, 1) ∷ (1, 1, 0) ∷ []) 3 (firm-of 0)), refuses 11 0)
+    ∷ (block-of (queueOf (map (λ t. (t, 1, 0)) (0 ∷ 1 ∷ 2 ∷ 3 ∷ 4 ∷ 5 ∷ 6 ∷ 7 ∷ 8 ∷ [])) 9 nobody), refuses 11 0)
+    ∷ (block-of (queueOf ((0, 3, 3) ∷ (1, 1, 0) ∷ []) 2 nobody), refuses 11 0)
+    ∷ (block-of (queueOf ((0, 3, 1) ∷ (1, 1, 1) ∷ []) 2 (firm-of 1)), refuses 11 0)
+    ∷ (block-of (queueOf ((0, 3, 3) ∷ (1, 1, 0) ∷ []) 2 (firm-of 0)), passes)
+    -- 12, the lowest bit, before 13 and before 14
+    ∷ (call-on stationA (tick-call 0x0004 0), refuses 12 3)
+    ∷ (call-on stationA (tick-call 0x8000 0), refuses 12 16)
+    ∷ (call-on stationA (tick-call 0x8004 1), refuses 12 3)
+    ∷ (call-on atClock2 (tick-call 0x0005 0), refuses 12 3)
+    -- 13: there was no tick; soft work ran. Before 14
+    ∷ (call-on stationA (tick-call 0 1), refuses 13 0)
+    ∷ (call-on atClock2 (tick-call 0x0001 1), refuses 13 0)
+    -- 14, the lowest bit; a rested row with a job still open. Asked after the closing
+    ∷ (call-on atClock2 (tick-call 0x0003 0), refuses 14 1)
+    ∷ (call-on atClock2 (tick-call 0x0002 0), refuses 14 2)
+    ∷ (call-on (oneRow 2 8 (opened 1) nobody) (tick-call 0x0001 0), refuses 14 1)
+    ∷ (call-on (oneRow 2 8 (opened 2) (row-at 0)) (tick-call 0x0001 0), ran 100 (hard 0 lower) (hard-job 0 spent))
+    -- 15, before 17
+    ∷ (call-on stationA (offer-call 0 0), refuses 15 0)
+    ∷ (call-on fullQueue (offer-call 0 9), refuses 15 0)
+    -- 16, before 17 and 18
+    ∷ (call-on stationA (offer-call 3 2), refuses 16 0)
+    ∷ (call-on fullQueue (offer-call 3 2), refuses 16 0)
+    -- 17, where there is room, and before 18; a fully run job keeps its place until it is closed
+    ∷ (call-on fullQueue (offer-call 1 9), refuses 17 0)
+    ∷ (call-on fullQueue (offer-call 1 1), refuses 17 0)
+    ∷ (call-on (after fullQueue (tick-call 0 0 ∷ [])) (offer-call 1 9), refuses 17 0)
+    ∷ (call-on (after fullQueue (tick-call 0 0 ∷ tick-call 0 0 ∷ [])) (offer-call 1 9), ticket 8)
+    -- 18: the rows' claims; the budgets unrun
+    ∷ (call-on atClock2 (offer-call 3 4), refuses 18 0)
+    ∷ (call-on (after (freshStation []) (offer-call 5 5 ∷ [])) (offer-call 1 5), refuses 18 0)
+    -- 19: one byte short
+    ∷ (output-of tableA 22, refuses 19 0)
+    ∷ (output-of tableA 23, passes)
+    -- 20, before 12; done and soft together are none
+    ∷ event-shows 20 (0x21 ∷ 0x00 ∷ 0x03 ∷ 0x00 ∷ 0x00 ∷ 0x04 ∷ []) endField
+    ∷ (call-on stationA (tick-call 0x0004 7), refuses 20 0)
+    ∷ (event-of (0x21 ∷ 0x00 ∷ 0x03 ∷ 0x00 ∷ 0x00 ∷ 0x03 ∷ []), passes)
+    ∷ (call-on (after stationA (tick-call 0x0003 0 ∷ [])) (tick-call 0 3), ran 1 soft (hard-job 0 done))
+    ∷ []
+
+-- the number of what was found, 0 where it is no refusal
+abbrev pub given : Found → ℕ
+given (R-and-U R U) = 0
+given (values ws) = 0
+given (ran t r c) = 0
+given (ticket t) = 0
+given (refuses n row) = n
+given (shows n from size bytes) = n
+given passes = 0
+
+pub record EveryRefusal : Type 0 where
+  pub all-hold : AllHold refusals
+  -- of 1 to 20 none is left out
+  pub none-missing : firstOf (λ n. not (any (λ k line. eqb (given (line .1)) n) 0 refusals)) 1 20 ≡ none
