@@ -73,7 +73,7 @@ claims-are (s ∷ ss) d = rw (claim-is s d, claims-are ss d)
 
 -- the sum over k = 0, 1, 2, ..: the terms from k = d on are 0, so that taking more of them changes nothing
 
-sum-on : (n m : ℕ) (h : ℕ → ℕ) → ((k : ℕ) → n ≤ k → h k ≡ 0) → sum (n + m) h ≡ sum n h
+pub sum-on : (n m : ℕ) (h : ℕ → ℕ) → ((k : ℕ) → n ≤ k → h k ≡ 0) → sum (n + m) h ≡ sum n h
 sum-on n zero h z = rw add-zero
 sum-on n (suc m) h z = rw (add-suc n m) (omega (arith, sum-on n m h z, z (n + m) (omega arith)))
 

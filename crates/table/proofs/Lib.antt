@@ -1,0 +1,10 @@
+pub mod Places
+pub mod Rows
+pub mod Fields
+pub mod Ranks
+pub mod Checks
+pub mod Recurrence
+pub mod Plans
+pub mod Verdicts
+pub mod Files
+pub mod RoundTrip

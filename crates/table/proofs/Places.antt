@@ -1,0 +1,49 @@
+-- Lists by index and places filled from the front: one more element, and the element at a place. Assumes nothing.
+use Prim.Native.Nat.{ℕ, zero, suc, _+_, _<_}
+use mathlib.Core.Path.{_≡_, refl, sym, ap, _∙_}
+use mathlib.Core.List.{List, [], _∷_, _++_, map}
+use native.Mathlib.Nat.{add-zero, not-suc-le-zero}
+use native.Mathlib.Numerals.{add-one}
+use native.Mathlib.Omega.{arith}
+use lib.ListN.{length, getD, set, length-map}
+use Rattle.table.specs.Memory.{indexed, fill}
+
+module _ {A : Type 0} (g : ℕ → A) where
+  pub length-indexed : (from n : ℕ) → length (indexed g from n) ≡ n
+  length-indexed from zero = refl
+  length-indexed from (suc n) = ap suc (length-indexed (suc from) n)
+
+  -- one more, at the end
+  pub indexed-next : (from n : ℕ) → indexed g from (n + 1) ≡ indexed g from n ++ (g (from + n) ∷ [])
+  indexed-next from n = ap (indexed g from) (add-one n) ∙ snoc from n
+    where
+      snoc : (from n : ℕ) → indexed g from (suc n) ≡ indexed g from n ++ (g (from + n) ∷ [])
+      snoc from zero = ap (λ (i : ℕ). g i ∷ []) (sym (add-zero from))
+      snoc from (suc n) =
+          let e : suc from + n ≡ from + suc n = omega arith in
+          ap (λ (l : List A). g from ∷ l) (snoc (suc from) n ∙ ap (λ (i : ℕ). indexed g (suc from) n ++ (g i ∷ [])) e)
+
+-- a store at the first place that is not filled
+pub fill-next : (n : ℕ) (l : List ℕ) (i x : ℕ) → length l ≡ i → i < n → set (fill n l) i x ≡ fill n (l ++ (x ∷ []))
+fill-next zero l i x e h = absurd (not-suc-le-zero h)
+fill-next (suc n) [] i x e h = ap (λ (k : ℕ). set (0 ∷ fill n []) k x) (sym e)
+fill-next (suc n) (y ∷ l) i x e h =
+    ap (λ (k : ℕ). set (y ∷ fill n l) k x) (sym e) ∙ ap (λ (r : List ℕ). y ∷ r) (fill-next n l (length l) x refl (omega arith))
+
+pub getD-fill : (n : ℕ) (l : List ℕ) (i : ℕ) → i < n → getD (fill n l) i 0 ≡ getD l i 0
+getD-fill zero l i h = absurd (not-suc-le-zero h)
+getD-fill (suc n) [] zero h = refl
+getD-fill (suc n) [] (suc i) h = getD-fill n [] i (omega arith)
+getD-fill (suc n) (y ∷ l) zero h = refl
+getD-fill (suc n) (y ∷ l) (suc i) h = getD-fill n l i (omega arith)
+
+map-append : {A B : Type 0} (h : A → B) (l m : List A) → map h (l ++ m) ≡ map h l ++ map h m
+map-append h [] m = refl
+map-append h (a ∷ l) m = ap (λ r. h a ∷ r) (map-append h l m)
+
+-- a column of sixteen places with one more element
+pub column-next : {A : Type 0} (h : A → ℕ) (l : List A) (a : A) (i x : ℕ) → length l ≡ i → i < 16 → x ≡ h a → set (fill 16 (map h l)) i x ≡ fill 16 (map h (l ++ (a ∷ [])))
+column-next h l a i x e few v =
+    fill-next 16 (map h l) i x (length-map l h ∙ e) few
+    ∙ ap (λ (y : ℕ). fill 16 (map h l ++ (y ∷ []))) v
+    ∙ ap (fill 16) (sym (map-append h l (a ∷ [])))

@@ -1,0 +1,119 @@
+-- The plan of a table, a row at a time: what is planned so far, in memory, and the plan of the rows that are left. Assumes nothing.
+use Prim.Native.Nat.{ℕ, zero, suc, _+_, _-_, _≤_, _<_}
+use mathlib.Core.Path.{_≡_, refl, sym, ap, _∙_}
+use mathlib.Core.Bool.{Bool, true, false, cond}
+use mathlib.Core.List.{List, [], _∷_, _++_, map, append-assoc, append-nil}
+use native.Mathlib.Numerals.{add-one}
+use native.Mathlib.Omega.{arith}
+use lib.Dec.{ltb, eqb}
+use lib.ListN.{length, set, length-append}
+use borrow.Author.Tests.{ltb-false}
+use Rattle.rules.specs.Rows.{Row}
+use Rattle.rules.specs.Bound.{f, Bound, bound, none-to-D, iterate, response, promotion, PlannedRow, planned, unplanned, withRow, planRows}
+use Rattle.rules.specs.Bound as rules
+use Rattle.table.specs.Memory.{indexed, fill, rowAt, rowsOf, aboveOf}
+use Rattle.table.specs.Answers.{boundOf, refusedPlanning, planningOf}
+use Rattle.table.specs.declared.Table.{Table}
+use Rattle.table.specs.declared.Planning.{Planning}
+use Rattle.table.specs.declared.Checked.{Checked}
+use Rattle.table.specs.declared.bounds.Bound as code
+use Rattle.table.proofs.Places.{column-next}
+
+-- what the code's bound says of the rules'
+pub bound-found : (b : Bound) {w k : ℕ} → code.Bound.Found w k ≡ boundOf b → b ≡ bound w k
+bound-found (bound R k) e = cc
+bound-found none-to-D e = absurd (let z : _≡_ {A = ℕ} 0 1 = cc in omega arith)
+
+pub bound-passes : (b : Bound) → code.Bound.PassesD ≡ boundOf b → b ≡ none-to-D
+bound-passes (bound R k) e = absurd (let z : _≡_ {A = ℕ} 0 1 = cc in omega arith)
+bound-passes none-to-D e = refl
+
+-- a bound does not pass D
+turn-le : (r : Row) (w k : ℕ) (next : Bound) (over same : Bool) {R rounds : ℕ} → ltb (r .D) w ≡ over → (next ≡ bound R rounds → R ≤ r .D) → cond over none-to-D (cond same (bound w (suc k)) next) ≡ bound R rounds → R ≤ r .D
+turn-le r w k next true same p ih e = absurd (let z : _≡_ {A = ℕ} 0 1 = cc in omega arith)
+turn-le r w k next false true {R} p ih e = let found : w ≡ R = cc in omega (arith, ltb-false (r .D) w p)
+turn-le r w k next false false p ih e = ih e
+
+iterate-le : (above : List Row) (r : Row) (n k w : ℕ) {R rounds : ℕ} → iterate above r n k w ≡ bound R rounds → R ≤ r .D
+iterate-le above r zero k w e = absurd (let z : _≡_ {A = ℕ} 0 1 = cc in omega arith)
+iterate-le above r (suc n) k w e =
+    turn-le r w k (iterate above r n (suc k) (f above r w)) (ltb (r .D) w) (eqb (f above r w) w) refl (iterate-le above r n (suc k) (f above r w)) e
+
+pub bound-le : (above : List Row) (r : Row) {R rounds : ℕ} → response above r ≡ bound R rounds → R ≤ r .D
+bound-le above r e = iterate-le above r (suc (r .D - r .C)) 0 (r .C) e
+
+-- planned rows before a plan
+abbrev pub prepend : List PlannedRow → rules.Plan → rules.Plan
+prepend ps (planned qs) = planned (ps ++ qs)
+prepend ps (unplanned x) = unplanned x
+
+prepend-row : (ps : List PlannedRow) (r : Row) (i R k : ℕ) (p : rules.Plan) → prepend ps (withRow r i (bound R k) p) ≡ prepend (ps ++ (record { row = r; R = R; rounds = k } ∷ [])) p
+prepend-row ps r i R k (planned qs) = ap planned (sym (append-assoc ps (record { row = r; R = R; rounds = k } ∷ []) qs))
+prepend-row ps r i R k (unplanned x) = refl
+
+-- the plan of the rows from a position on
+abbrev pub planFrom : Table → ℕ → rules.Plan
+planFrom tb i = planRows (aboveOf tb i) i (indexed (rowAt tb) i (tb .n - i))
+
+plan-next : (tb : Table) (i : ℕ) → i < tb .n → planFrom tb i ≡ withRow (rowAt tb i) i (response (aboveOf tb i) (rowAt tb i)) (planFrom tb (i + 1))
+unfolding planRows
+plan-next tb i h =
+    let left : tb .n - i ≡ suc (tb .n - suc i) = omega arith in
+    ap (λ (n : ℕ). planRows (aboveOf tb i) i (indexed (rowAt tb) i n)) left
+    ∙ ap (λ (k : ℕ). withRow (rowAt tb i) i (response (aboveOf tb i) (rowAt tb i)) (planFrom tb k)) (sym (add-one i))
+
+-- the first i rows are planned, and stand in memory
+pub record SoFar (tb : Table) (i : ℕ) (r u rounds : List ℕ) : Type 0 where
+  pub rows : List PlannedRow
+  pub count : length rows ≡ i
+  pub r-is : r ≡ fill 16 (map (λ p. p .R) rows)
+  pub u-is : u ≡ fill 16 (map (λ p. promotion (p .row) (p .R)) rows)
+  pub rounds-is : rounds ≡ fill 16 (map (λ p. p .rounds) rows)
+  pub plan-is : planRows [] 0 (rowsOf tb) ≡ prepend rows (planFrom tb i)
+
+prepend-none : (p : rules.Plan) → p ≡ prepend [] p
+prepend-none (planned qs) = refl
+prepend-none (unplanned x) = refl
+
+pub none-planned : (tb : Table) → SoFar tb 0 (fill 16 []) (fill 16 []) (fill 16 [])
+none-planned tb =
+    let left : tb .n ≡ tb .n - 0 = omega arith in
+    record {
+      rows = [];
+      count = refl;
+      r-is = refl;
+      u-is = refl;
+      rounds-is = refl;
+      plan-is = ap (λ (n : ℕ). planRows [] 0 (indexed (rowAt tb) 0 n)) left ∙ prepend-none (planFrom tb 0);
+    }
+
+module _ (tb : Table) (i : ℕ) (r u rounds : List ℕ) (so : SoFar tb i r u rounds) where
+  pub one-more-planned : i < tb .n → tb .n ≤ 16 → {w k x : ℕ} → response (aboveOf tb i) (rowAt tb i) ≡ bound w k → x ≡ rowAt tb i .D - w → SoFar tb (i + 1) (set r i w) (set u i x) (set rounds i k)
+  one-more-planned more few {w} {k} {x} e later =
+      let p : PlannedRow = record { row = rowAt tb i; R = w; rounds = k } in
+      record {
+        rows = so .rows ++ (p ∷ []);
+        count = length-append (so .rows) (p ∷ []) ∙ ap (λ (n : ℕ). n + 1) (so .count);
+        r-is = ap (λ (l : List ℕ). set l i w) (so .r-is) ∙ column-next (λ q. q .R) (so .rows) p i w (so .count) (omega arith) refl;
+        u-is = ap (λ (l : List ℕ). set l i x) (so .u-is) ∙ column-next (λ q. promotion (q .row) (q .R)) (so .rows) p i x (so .count) (omega arith) later;
+        rounds-is = ap (λ (l : List ℕ). set l i k) (so .rounds-is) ∙ column-next (λ q. q .rounds) (so .rows) p i k (so .count) (omega arith) refl;
+        plan-is =
+            so .plan-is
+            ∙ ap (prepend (so .rows)) (plan-next tb i more ∙ ap (λ (b : Bound). withRow (rowAt tb i) i b (planFrom tb (i + 1))) e)
+            ∙ prepend-row (so .rows) (rowAt tb i) i w k (planFrom tb (i + 1));
+      }
+
+  pub planning-fails : i < tb .n → response (aboveOf tb i) (rowAt tb i) ≡ none-to-D → refusedPlanning 10 i ≡ planningOf (planRows [] 0 (rowsOf tb))
+  planning-fails more e =
+      sym
+      (ap planningOf
+      (so .plan-is ∙ ap (prepend (so .rows)) (plan-next tb i more ∙ ap (λ (b : Bound). withRow (rowAt tb i) i b (planFrom tb (i + 1))) e)))
+
+  pub all-planned : tb .n ≤ i → _≡_ {A = Planning} (record { verdict = Checked.Passed; plan = record { r = r; u = u; rounds = rounds } }) (planningOf (planRows [] 0 (rowsOf tb)))
+  unfolding planRows
+  all-planned done =
+      let left : tb .n - i ≡ 0 = omega arith in
+      let whole : planRows [] 0 (rowsOf tb) ≡ planned (so .rows) =
+      so .plan-is ∙ ap (λ (n : ℕ). prepend (so .rows) (planRows (aboveOf tb i) i (indexed (rowAt tb) i n))) left ∙ ap planned (append-nil (so .rows))
+      in
+      (λ k. record { verdict = Checked.Passed; plan = record { r = so .r-is k; u = so .u-is k; rounds = so .rounds-is k } }) ∙ sym (ap planningOf whole)

@@ -1,0 +1,101 @@
+-- `table::writing::put_rows` meets its contract. The invariant: the bytes of the first i rows are put. The measure is how many rows are left. Assumes nothing.
+use Prim.Native.Nat.{ℕ, _+_, _-_, _*_, _≤_}
+use mathlib.Core.Path.{_≡_, ap, _∙_}
+use native.Mathlib.Omega.{arith}
+use lib.ListN.{length}
+use lib.Seq.{sets}
+use borrow.Author.Needs.{needs}
+use Rattle.rules.specs.File.{rowBytes}
+use Rattle.wire.proofs.Stores.{stored-then}
+use Rattle.table.specs.Memory.{indexed, rowAt, rowsBytes}
+use Rattle.table.proofs.Rows.{bytes-more, length-rowsBytes}
+use Rattle.table.proofs.Places.{length-indexed}
+use Rattle.table.proofs.writing.put_rows.Statement.{statement}
+use Rattle.table.proofs.writing.put_rows.Tie as tie
+
+abbrev Inv-loop : tie.InvT-loop
+Inv-loop out₀ tb i₀ out i = (i ≤ tb .n) × (length out ≡ length out₀) × (out ≡ sets out₀ 0 (rowsBytes (indexed (rowAt tb) 0 i)))
+
+abbrev μ-loop : tie.MeasureT-loop
+μ-loop out₀ tb i₀ out i = tb .n - i
+
+loop-holds : tie.Need-loop-holds Inv-loop μ-loop
+loop-holds c = search needs
+
+mul-put-row : tie.Need-mul-put-row Inv-loop μ-loop
+mul-put-row c = search needs
+
+mul-put-row-2 : tie.Need-mul-put-row-2 Inv-loop μ-loop
+mul-put-row-2 c = search needs
+
+element-copy-out-put-row : tie.Need-element-copy-out-put-row Inv-loop μ-loop
+element-copy-out-put-row c = search needs
+
+mul-put-row-3 : tie.Need-mul-put-row-3 Inv-loop μ-loop
+mul-put-row-3 c = search needs
+
+element-copy-out-put-row-2 : tie.Need-element-copy-out-put-row-2 Inv-loop μ-loop
+element-copy-out-put-row-2 c = search needs
+
+mul-put-row-4 : tie.Need-mul-put-row-4 Inv-loop μ-loop
+mul-put-row-4 c = search needs
+
+element-copy-out-put-row-3 : tie.Need-element-copy-out-put-row-3 Inv-loop μ-loop
+element-copy-out-put-row-3 c = search needs
+
+element-copy-out-put-row-4 : tie.Need-element-copy-out-put-row-4 Inv-loop μ-loop
+element-copy-out-put-row-4 c = search needs
+
+put-row-requires : tie.Need-put-row-requires Inv-loop μ-loop
+put-row-requires c κs = search needs
+
+add-i : tie.Need-add-i Inv-loop μ-loop
+add-i c = search needs
+
+loop-less : tie.Need-loop-less Inv-loop μ-loop
+loop-less c = search needs
+
+loop-again : tie.Need-loop-again Inv-loop μ-loop
+loop-again c =
+    let l = c .before .before .before .before .before .before .before .before .before .loop in
+    let a = c .before .before .before .before .before .before .before .before .before .before .before .args in
+    let call = c .before .before in
+    let rows = rowsBytes (indexed (rowAt (a .t1)) 0 (l .i)) in
+    let long : 10 * l .i ≡ 0 + length rows = omega (arith, length-rowsBytes (indexed (rowAt (a .t1)) 0 (l .i)), length-indexed (rowAt (a .t1)) 0 (l .i)) in (
+      omega arith,
+      call .put-row .kept .0 ∙ l .inv .1,
+      stored-then rows (rowBytes (rowAt (a .t1) (l .i))) (a .out .now) 0 (10 * l .i) (l .inv .2) long (call .put-row .ensures)
+          ∙ ap (sets (a .out .now) 0) (bytes-more (rowAt (a .t1)) (l .i)),
+    )
+
+same-length : tie.Need-same-length Inv-loop μ-loop
+same-length c = search needs
+
+returns : tie.Need-returns Inv-loop μ-loop
+returns c =
+    let l = c .before .loop in
+    let a = c .before .before .before .args in
+    let e : l .i ≡ a .t1 .n = omega arith in
+    l .inv .2 ∙ ap (λ (k : ℕ). sets (a .out .now) 0 (rowsBytes (indexed (rowAt (a .t1)) 0 k))) e
+
+pub put-rows-spec : {M : Type 1} → statement M
+put-rows-spec =
+    tie.close
+    (tie.spec
+    Inv-loop
+    μ-loop
+    loop-holds
+    mul-put-row
+    mul-put-row-2
+    element-copy-out-put-row
+    mul-put-row-3
+    element-copy-out-put-row-2
+    mul-put-row-4
+    element-copy-out-put-row-3
+    element-copy-out-put-row-4
+    put-row-requires
+    add-i
+    loop-less
+    loop-again
+    same-length
+    returns)

@@ -1,0 +1,64 @@
+-- A table in memory as the rules' rows, and the rules' rows as a table in memory: sixteen places, 0 where there is no row. Assumes nothing.
+use Prim.Native.Nat.{ℕ, zero, suc, _*_, _<_}
+use mathlib.Core.List.{List, [], _∷_, _++_, map}
+use lib.ListN.{length, getD, drop}
+use Rattle.rules.specs.Rows.{Row}
+use Rattle.rules.specs.Bound.{PlannedRow, promotion}
+use Rattle.rules.specs.File.{rowOf, rowBytes}
+use Rattle.rules.specs.Tables.{RowOk}
+use Rattle.table.specs.declared.Table.{Table}
+use Rattle.table.specs.declared.Plan.{Plan}
+
+-- g from, g (from + 1), .., n of them
+abbrev pub indexed : {A : Type 0} → (ℕ → A) → ℕ → ℕ → List A
+indexed g from zero = []
+indexed g from (suc n) = g from ∷ indexed g (suc from) n
+
+-- n places: the list, then zeros
+abbrev pub fill : ℕ → List ℕ → List ℕ
+fill zero l = []
+fill (suc n) [] = 0 ∷ fill n []
+fill (suc n) (x ∷ l) = x ∷ fill n l
+
+-- the row at a position, 0 throughout where there is none
+abbrev pub rowAt : Table → ℕ → Row
+rowAt tb i = record { C = getD (tb .c) i 0; D = getD (tb .d) i 0; T = getD (tb .t) i 0; rank = getD (tb .rank) i 0 }
+
+abbrev pub rowsOf : Table → List Row
+rowsOf tb = indexed (rowAt tb) 0 (tb .n)
+
+-- the rows above the one at a position, the nearest first
+abbrev pub aboveOf : Table → ℕ → List Row
+aboveOf tb zero = []
+aboveOf tb (suc i) = rowAt tb i ∷ aboveOf tb i
+
+abbrev pub tableOf : List Row → Table
+tableOf rs =
+    record {
+      n = length rs;
+      c = fill 16 (map (λ r. r .C) rs);
+      d = fill 16 (map (λ r. r .D) rs);
+      t = fill 16 (map (λ r. r .T) rs);
+      rank = fill 16 (map (λ r. r .rank) rs);
+    }
+
+abbrev pub planOf : List PlannedRow → Plan
+planOf ps =
+    record {
+      r = fill 16 (map (λ p. p .R) ps);
+      u = fill 16 (map (λ p. promotion (p .row) (p .R)) ps);
+      rounds = fill 16 (map (λ p. p .rounds) ps);
+    }
+
+-- the first n rows of a file
+abbrev pub rowsIn : List ℕ → ℕ → List Row
+rowsIn s n = indexed (λ i. rowOf (drop (10 * i) s)) 0 n
+
+-- the first n rows have 1 ≤ C ≤ D ≤ T
+abbrev pub Sound : Table → ℕ → Type 0
+Sound tb n = (i : ℕ) → i < n → RowOk (rowAt tb i)
+
+-- the bytes of rows, with no end field
+abbrev pub rowsBytes : List Row → List ℕ
+rowsBytes [] = []
+rowsBytes (r ∷ rs) = rowBytes r ++ rowsBytes rs

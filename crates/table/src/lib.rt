@@ -1,0 +1,149 @@
+// The hard table of document 01: read from its file, checked, planned, and written to a file again.
+mod bounds;
+mod faults;
+mod scan;
+mod view;
+mod writing;
+
+pub use view::Place;
+pub use view::shown;
+ghost use mathlib.Core.Path.{_≡_};
+ghost use Prim.Native.Nat.{_≤_};
+ghost use Rattle.rules.specs.Bound.{plan};
+ghost use Rattle.rules.specs.File.{planScan, read, write};
+ghost use Rattle.table.specs.Memory.{rowsOf, tableOf};
+ghost use Rattle.table.specs.Answers.{planningOf, planOrRefuse, refusedRead, readingOf, writtenOf, heldOf};
+
+// A table in memory: n rows, row 1 at index 0. What read_table gives has 0 at n and above.
+pub struct Table {
+    pub n: usize,
+    pub c: [u16; 16],
+    pub d: [u16; 16],
+    pub t: [u16; 16],
+    pub rank: [u8; 16],
+}
+
+// The plan of a table: each row's response bound R, its promotion time U and its rounds; 0 where there is no row.
+pub struct Plan {
+    pub r: [u16; 16],
+    pub u: [u16; 16],
+    pub rounds: [u16; 16],
+}
+
+// What the checks of rows say: the number of the first that fails, and its row, counted from 0.
+pub enum Checked {
+    Passed,
+    Failed { number: u8, row: usize },
+}
+
+// The answer of planning. A table that is refused has a plan of zeros.
+pub struct Planning {
+    pub verdict: Checked,
+    pub plan: Plan,
+}
+
+// A refused file: the number, and the part of the file that is shown.
+pub struct Refusal {
+    pub number: u8,
+    pub from: usize,
+    pub size: usize,
+}
+
+pub enum Verdict {
+    Accepted,
+    Refused(Refusal),
+}
+
+// The answer of reading. A file that is refused has a table and a plan of zeros.
+pub struct TableRead {
+    pub verdict: Verdict,
+    pub table: Table,
+    pub plan: Plan,
+}
+
+// The answer of writing: how many bytes were written, or the number of the refusal.
+pub enum Written {
+    Length(usize),
+    Refused(u8),
+}
+
+// The table that a file holds, with its plan, or why it is refused: checks 1 to 10, in document 01's order.
+pub fn read_table(s: &[u8]) -> TableRead
+    ensures { λ r. ⌜ r ≡ readingOf (read (now (s .entry))) ⌝ }
+{
+    match scan::scan_fields(s) {
+        scan::Scanned::Broken { number, from, size } => unread(number, from, size),
+        scan::Scanned::Whole { n } => read_rows(scan::table_at(s, n)),
+    }
+}
+
+// The table and its plan, or why its file is refused: 6 to 10, which show the row's ten bytes.
+fn read_rows(tb: Table) -> TableRead
+    requires { ⌜ (tb .n ≤ 16) × (tb ≡ tableOf (rowsOf tb)) ⌝ }
+    ensures { λ r. ⌜ r ≡ readingOf (planScan (plan (rowsOf tb))) ⌝ }
+{
+    let planning = plan_table(tb);
+    let verdict = planning.verdict;
+    match verdict {
+        Checked::Failed { number, row } => unread(number, 10 * row, 10),
+        Checked::Passed => {
+            let plan = planning.plan;
+            TableRead {
+                verdict: Verdict::Accepted,
+                table: tb,
+                plan,
+            }
+        }
+    }
+}
+
+// A refused file's answer.
+fn unread(number: u8, from: usize, size: usize) -> TableRead
+    ensures { λ r. ⌜ r ≡ refusedRead number from size ⌝ }
+{
+    let zero = [0u16; 16];
+    let rank = [0u8; 16];
+    let table = Table {
+        n: 0,
+        c: zero,
+        d: zero,
+        t: zero,
+        rank,
+    };
+    let plan = Plan {
+        r: zero,
+        u: zero,
+        rounds: zero,
+    };
+    TableRead {
+        verdict: Verdict::Refused(Refusal { number, from, size }),
+        table,
+        plan,
+    }
+}
+
+// The plan of a table, or the first of 5 to 10 that refuses it.
+pub fn plan_table(tb: Table) -> Planning
+    ensures { λ r. ⌜ r ≡ planningOf (planOrRefuse (rowsOf tb)) ⌝ }
+{
+    if 16 < tb.n {
+        return bounds::unplanned(5, 0);
+    }
+    match faults::rows_check(tb) {
+        Checked::Failed { number, row } => bounds::unplanned(number, row),
+        Checked::Passed => bounds::plan_rows(tb),
+    }
+}
+
+// Writes a table's file to the front of out: 5 to 10, then 19. A refusal writes nothing, and bytes after the length stay.
+pub fn write_table(tb: Table, out: &mut [u8]) -> Written
+    ensures { λ r. ⌜ r ≡ writtenOf (write (rowsOf tb) (now (out .entry))) ⌝ }
+    ensures { λ _. ⌜ now (out .exit) ≡ heldOf (now (out .entry)) (write (rowsOf tb) (now (out .entry))) ⌝ }
+{
+    let planning = plan_table(tb);
+    let verdict = planning.verdict;
+    match verdict {
+        Checked::Failed { number, row: _ } => Written::Refused(number),
+        Checked::Passed => writing::put_table(tb, out),
+    }
+}

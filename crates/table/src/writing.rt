@@ -1,0 +1,60 @@
+// The bytes of a table's file, put at the front of an output.
+use crate::Table;
+use crate::Written;
+ghost use mathlib.Core.Path.{_≡_};
+ghost use mathlib.Core.List.{[]};
+ghost use Prim.Native.Nat.{_+_, _*_, _≤_};
+ghost use lib.ListN.{length};
+ghost use lib.Seq.{sets};
+ghost use Rattle.rules.specs.File.{rowBytes, fileBytes, put};
+ghost use Rattle.table.specs.Memory.{rowsOf, rowsBytes};
+ghost use Rattle.table.specs.Answers.{writtenOf, heldOf};
+
+// The whole file, where it fits: 19 where it does not.
+pub fn put_table(tb: Table, out: &mut [u8]) -> Written
+    requires { ⌜ tb .n ≤ 16 ⌝ }
+    ensures { λ r. ⌜ r ≡ writtenOf (put (fileBytes (rowsOf tb)) (now (out .entry))) ⌝ }
+    ensures { λ _. ⌜ now (out .exit) ≡ heldOf (now (out .entry)) (put (fileBytes (rowsOf tb)) (now (out .entry))) ⌝ }
+{
+    let size = 10 * tb.n + 3;
+    if out.len() < size {
+        return Written::Refused(19);
+    }
+    put_rows(tb, out);
+    put_end(out, size - 3);
+    Written::Length(size)
+}
+
+// The fields of the rows, one after the other.
+fn put_rows(tb: Table, out: &mut [u8])
+    requires { ⌜ (tb .n ≤ 16) × (10 * tb .n ≤ length (now out)) ⌝ }
+    ensures { λ _. ⌜ now (out .exit) ≡ sets (now (out .entry)) 0 (rowsBytes (rowsOf tb)) ⌝ }
+{
+    let mut i: usize = 0;
+    while i < tb.n {
+        put_row(out, 10 * i, tb.c[i], tb.d[i], tb.t[i], tb.rank[i]);
+        i += 1;
+    }
+}
+
+// One row's field at a place.
+fn put_row(out: &mut [u8], at: usize, c: u16, d: u16, t: u16, rank: u8)
+    requires { ⌜ at + 10 ≤ length (now out) ⌝ }
+    ensures { λ _. ⌜ now (out .exit) ≡ sets (now (out .entry)) at (rowBytes (record { C = c; D = d; T = t; rank = rank })) ⌝ }
+{
+    wire::put_u8(out, at, 1);
+    wire::put_u16(out, at + 1, 7);
+    wire::put_u16(out, at + 3, c);
+    wire::put_u16(out, at + 5, d);
+    wire::put_u16(out, at + 7, t);
+    wire::put_u8(out, at + 9, rank);
+}
+
+// The end field at a place.
+fn put_end(out: &mut [u8], at: usize)
+    requires { ⌜ at + 3 ≤ length (now out) ⌝ }
+    ensures { λ _. ⌜ now (out .exit) ≡ sets (now (out .entry)) at (fileBytes []) ⌝ }
+{
+    wire::put_u8(out, at, 15);
+    wire::put_u16(out, at + 1, 0);
+}

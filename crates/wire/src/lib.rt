@@ -1,0 +1,39 @@
+// Numbers in byte slices, big-endian: a byte and two bytes, read and put at a place.
+ghost use mathlib.Core.Path.{_≡_};
+ghost use mathlib.Core.List.{[], _∷_};
+ghost use Prim.Native.Nat.{_+_, _<_, _≤_};
+ghost use lib.ListN.{length};
+ghost use lib.Seq.{sets};
+ghost use Rattle.rules.specs.Fields.{word, two};
+
+// The number whose two bytes stand at a place.
+pub fn get_u16(s: &[u8], at: usize) -> u16
+    requires { ⌜ at + 2 ≤ length (now s) ⌝ }
+    ensures { λ r. ⌜ r ≡ word (now (s .entry)) at ⌝ }
+{
+    wide(s[at]) * 256 + wide(s[at + 1])
+}
+
+// A byte as a number of two.
+fn wide(x: u8) -> u16
+    ensures { λ r. ⌜ (r ≡ x) × (r < 256) ⌝ }
+{
+    x as u16
+}
+
+// Puts a byte at a place; every other byte stays.
+pub fn put_u8(s: &mut [u8], at: usize, x: u8)
+    requires { ⌜ at + 1 ≤ length (now s) ⌝ }
+    ensures { λ _. ⌜ now (s .exit) ≡ sets (now (s .entry)) at (x ∷ []) ⌝ }
+{
+    s[at] = x;
+}
+
+// Puts the two bytes of a number at a place; every other byte stays.
+pub fn put_u16(s: &mut [u8], at: usize, x: u16)
+    requires { ⌜ at + 2 ≤ length (now s) ⌝ }
+    ensures { λ _. ⌜ now (s .exit) ≡ sets (now (s .entry)) at (two x) ⌝ }
+{
+    s[at] = (x / 256) as u8;
+    s[at + 1] = (x % 256) as u8;
+}

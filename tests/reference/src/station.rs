@@ -1,0 +1,627 @@
+//! The station: the tick and the upload offer, in true time.
+
+use crate::table::{Row, Table};
+
+/// Most firm jobs in the queue.
+pub const MOST_FIRM: usize = 8;
+
+/// Clocks and tickets are shown modulo 2^32.
+pub const ROLL_OVER: u128 = 4_294_967_296;
+
+/// An open hard job.
+#[derive(Clone, Debug, PartialEq, Eq)]
+pub struct HardJob {
+    pub release: u128,
+    pub run: u128,
+}
+
+/// A row of the station. The table's rows are counted from 1; the row at index
+/// 0 of a list is row 1.
+#[derive(Clone, Debug, PartialEq, Eq)]
+pub struct HardRow {
+    pub row: Row,
+    /// U, the ticks from release to promotion.
+    pub promotion: u128,
+    pub last_release: Option<u128>,
+    pub open: Option<HardJob>,
+}
+
+/// A queued firm job. `number` is the true number of earlier acceptances.
+#[derive(Clone, Debug, PartialEq, Eq)]
+pub struct FirmJob {
+    pub number: u128,
+    pub budget: u128,
+    pub run: u128,
+}
+
+/// What ran in the last accepted tick.
+#[derive(Clone, Copy, Debug, PartialEq, Eq)]
+pub enum Last {
+    /// There was no accepted tick.
+    None,
+    /// Soft work, or nothing.
+    NoJob,
+    /// The open job of this row, counted from 1.
+    Hard(usize),
+    /// The first firm job of the queue.
+    Firm,
+}
+
+#[derive(Clone, Debug, PartialEq, Eq)]
+pub struct Station {
+    /// The true number of accepted ticks.
+    pub time: u128,
+    pub rows: Vec<HardRow>,
+    /// The firm jobs, first accepted first.
+    pub firm: Vec<FirmJob>,
+    /// The true number of acceptances.
+    pub acceptances: u128,
+    pub last: Last,
+}
+
+#[derive(Clone, Copy, Debug, PartialEq, Eq)]
+pub enum Band {
+    Upper,
+    Lower,
+}
+
+#[derive(Clone, Copy, Debug, PartialEq, Eq)]
+pub enum Runner {
+    /// The row, counted from 1, and its band.
+    Hard(usize, Band),
+    /// The ticket as shown.
+    Firm(u128),
+    Soft,
+    Idle,
+}
+
+/// A job as a closing names it: a row counted from 1, or a ticket as shown.
+#[derive(Clone, Copy, Debug, PartialEq, Eq)]
+pub enum Job {
+    Hard(usize),
+    Firm(u128),
+}
+
+#[derive(Clone, Copy, Debug, PartialEq, Eq)]
+pub enum Closing {
+    None,
+    Done(Job),
+    Spent(Job),
+}
+
+/// The answer to an accepted tick.
+#[derive(Clone, Copy, Debug, PartialEq, Eq)]
+pub struct Answer {
+    /// The tick as the clock shows it.
+    pub clock: u128,
+    pub runner: Runner,
+    pub closing: Closing,
+}
+
+/// A refused tick or offer: the number, and for 12 and 14 the row.
+#[derive(Clone, Copy, Debug, PartialEq, Eq)]
+pub struct Refusal {
+    pub number: u8,
+    pub row: Option<usize>,
+}
+
+/// Whether the release set holds this row, counted from 1 (bit 0 is row 1).
+pub fn releases_row(releases: u16, row: usize) -> bool {
+    let weight = 2_u128.pow(row as u32 - 1);
+    u128::from(releases) / weight % 2 == 1
+}
+
+impl HardRow {
+    /// Never released, or T or more ticks have passed since the last release.
+    pub fn rested(&self, now: u128) -> bool {
+        match self.last_release {
+            None => true,
+            Some(release) => now - release >= u128::from(self.row.t),
+        }
+    }
+
+    /// Ticks until the row is rested, 0 if it is.
+    pub fn until_rested(&self, now: u128) -> u128 {
+        match self.last_release {
+            None => 0,
+            Some(release) => (release + u128::from(self.row.t)).saturating_sub(now),
+        }
+    }
+
+    /// Whether there is an open job, and it is promoted at this tick.
+    fn has_promoted_job(&self, now: u128) -> bool {
+        match &self.open {
+            None => false,
+            Some(job) => now >= job.release + self.promotion,
+        }
+    }
+
+    fn has_unpromoted_job(&self, now: u128) -> bool {
+        self.open.is_some() && !self.has_promoted_job(now)
+    }
+
+    /// The open job's part of a window of `d` ticks from now:
+    /// min(c, max(0, d - x)).
+    fn open_claim(&self, now: u128, d: i128) -> i128 {
+        let Some(job) = &self.open else {
+            return 0;
+        };
+        let c = i128::from(self.row.c) - job.run as i128;
+        let x = 0.max(job.release as i128 + self.promotion as i128 - now as i128);
+        c.min(0.max(d - x))
+    }
+
+    /// The future jobs' part: the sum over k = 0, 1, 2, .. of
+    /// min(C, max(0, d - (l + U + kT))).
+    fn future_claim(&self, now: u128, d: i128) -> i128 {
+        let c = i128::from(self.row.c);
+        let l = self.until_rested(now) as i128;
+        let u = self.promotion as i128;
+        let t = i128::from(self.row.t);
+        let mut sum = 0;
+        let mut k = 0;
+        // From the first k with l + U + kT at d or above, all terms are 0.
+        while l + u + k * t < d {
+            sum += c.min(0.max(d - (l + u + k * t)));
+            k += 1;
+        }
+        sum
+    }
+}
+
+impl Station {
+    /// A fresh station: the clock at 0, nothing released, nothing queued.
+    pub fn new(table: &Table) -> Station {
+        let mut rows = Vec::new();
+        for (row, bound) in table.rows.iter().zip(&table.bounds) {
+            rows.push(HardRow {
+                row: *row,
+                promotion: bound.promotion,
+                last_release: None,
+                open: None,
+            });
+        }
+        Station { time: 0, rows, firm: Vec::new(), acceptances: 0, last: Last::None }
+    }
+
+    /// The next tick as the clock shows it.
+    pub fn clock(&self) -> u128 {
+        self.time % ROLL_OVER
+    }
+
+    /// One tick call: 12, 13, 14, or the answer. A refused call changes
+    /// nothing.
+    pub fn tick(&mut self, releases: u16, done: bool, soft: bool) -> Result<Answer, Refusal> {
+        self.refuse_unknown_rows(releases)?;
+        self.refuse_needless_done(done)?;
+        // The steps work on a copy, which is kept only if the tick is accepted.
+        let mut next = self.clone();
+        let closing = next.close(done);
+        next.refuse_unready_rows(releases)?;
+        next.release(releases);
+        let clock = next.clock();
+        let runner = next.choose(soft);
+        next.run(runner);
+        *self = next;
+        Ok(Answer { clock, runner, closing })
+    }
+
+    /// 12: a release bit of a row above n.
+    fn refuse_unknown_rows(&self, releases: u16) -> Result<(), Refusal> {
+        for row in 1..=16 {
+            if releases_row(releases, row) && row > self.rows.len() {
+                return Err(Refusal { number: 12, row: Some(row) });
+            }
+        }
+        Ok(())
+    }
+
+    /// 13: a done flag, and the last accepted tick ran no job or there was none.
+    fn refuse_needless_done(&self, done: bool) -> Result<(), Refusal> {
+        let ran_job = match self.last {
+            Last::None | Last::NoJob => false,
+            Last::Hard(_) | Last::Firm => true,
+        };
+        if done && !ran_job {
+            return Err(Refusal { number: 13, row: None });
+        }
+        Ok(())
+    }
+
+    /// 14, asked after the closing: a released row isn't rested or has an open
+    /// job.
+    fn refuse_unready_rows(&self, releases: u16) -> Result<(), Refusal> {
+        for row in 1..=self.rows.len() {
+            let hard = &self.rows[row - 1];
+            let unready = !hard.rested(self.time) || hard.open.is_some();
+            if releases_row(releases, row) && unready {
+                return Err(Refusal { number: 14, row: Some(row) });
+            }
+        }
+        Ok(())
+    }
+
+    /// Step 1: closes the job that ran in the last accepted tick, as done if
+    /// the flag says so, else as spent if it has run its whole C or budget.
+    fn close(&mut self, done: bool) -> Closing {
+        let (job, fully_run) = match self.last {
+            Last::None | Last::NoJob => return Closing::None,
+            Last::Hard(row) => {
+                let hard = &self.rows[row - 1];
+                let open = hard.open.as_ref().expect("the last runner is open");
+                (Job::Hard(row), open.run == u128::from(hard.row.c))
+            }
+            Last::Firm => {
+                let first = &self.firm[0];
+                (Job::Firm(first.number % ROLL_OVER), first.run == first.budget)
+            }
+        };
+        if !done && !fully_run {
+            return Closing::None;
+        }
+        match job {
+            Job::Hard(row) => self.rows[row - 1].open = None,
+            Job::Firm(_) => {
+                self.firm.remove(0);
+            }
+        }
+        if done {
+            Closing::Done(job)
+        } else {
+            Closing::Spent(job)
+        }
+    }
+
+    /// Step 2: each set bit opens a job of that row, released now, nothing run.
+    fn release(&mut self, releases: u16) {
+        for row in 1..=self.rows.len() {
+            if releases_row(releases, row) {
+                let hard = &mut self.rows[row - 1];
+                hard.last_release = Some(self.time);
+                hard.open = Some(HardJob { release: self.time, run: 0 });
+            }
+        }
+    }
+
+    /// Step 3: the first that exists of the five.
+    fn choose(&self, soft: bool) -> Runner {
+        let now = self.time;
+        let numbers = 1..=self.rows.len();
+        let promoted = numbers.clone().find(|&row| self.rows[row - 1].has_promoted_job(now));
+        if let Some(row) = promoted {
+            return Runner::Hard(row, Band::Upper);
+        }
+        if let Some(first) = self.firm.first() {
+            return Runner::Firm(first.number % ROLL_OVER);
+        }
+        if soft {
+            return Runner::Soft;
+        }
+        let unpromoted = numbers.filter(|&row| self.rows[row - 1].has_unpromoted_job(now));
+        if let Some(row) = unpromoted.min_by_key(|&row| self.rows[row - 1].row.rank) {
+            return Runner::Hard(row, Band::Lower);
+        }
+        Runner::Idle
+    }
+
+    /// Step 4: runs the choice for one tick and advances the clock by one.
+    fn run(&mut self, runner: Runner) {
+        self.last = match runner {
+            Runner::Hard(row, _) => {
+                self.rows[row - 1].open.as_mut().expect("the runner is open").run += 1;
+                Last::Hard(row)
+            }
+            Runner::Firm(_) => {
+                self.firm[0].run += 1;
+                Last::Firm
+            }
+            Runner::Soft | Runner::Idle => Last::NoJob,
+        };
+        self.time += 1;
+    }
+
+    /// An upload offer: 15, 16, 17, 18, or the ticket as shown. A refused offer
+    /// changes nothing.
+    pub fn offer(&mut self, budget: u16, deadline: u16) -> Result<u128, Refusal> {
+        let refuse = |number: u8| Err(Refusal { number, row: None });
+        if budget == 0 {
+            return refuse(15);
+        }
+        if deadline < budget {
+            return refuse(16);
+        }
+        if self.firm.len() == MOST_FIRM {
+            return refuse(17);
+        }
+        if self.room(deadline) < i128::from(budget) + self.unrun_budgets() {
+            return refuse(18);
+        }
+        let number = self.acceptances;
+        self.firm.push(FirmJob { number, budget: u128::from(budget), run: 0 });
+        self.acceptances += 1;
+        Ok(number % ROLL_OVER)
+    }
+
+    /// Room: the window less the sums of every row. It may be below 0.
+    pub fn room(&self, deadline: u16) -> i128 {
+        let d = i128::from(deadline);
+        let mut room = d;
+        for hard in &self.rows {
+            room -= hard.open_claim(self.time, d);
+            room -= hard.future_claim(self.time, d);
+        }
+        room
+    }
+
+    /// The budgets still unrun of all queued firm jobs.
+    pub fn unrun_budgets(&self) -> i128 {
+        self.firm.iter().map(|job| job.budget as i128 - job.run as i128).sum()
+    }
+
+    /// As many ticks without release or flag, in one step. Only for a station
+    /// with nothing open, where each of them is idle and closes nothing.
+    pub fn sleep(&mut self, ticks: u128) {
+        assert!(self.firm.is_empty() && self.rows.iter().all(|hard| hard.open.is_none()));
+        if ticks > 0 {
+            self.time += ticks;
+            self.last = Last::NoJob;
+        }
+    }
+}
+
+#[cfg(test)]
+mod tests {
+    use super::*;
+    use crate::table::{file_of_rows, read_table};
+
+    /// A fresh station with rows of these (C, D, T, rank).
+    fn station(numbers: &[(u16, u16, u16, u8)]) -> Station {
+        let rows: Vec<Row> = numbers.iter().map(|&(c, d, t, rank)| Row { c, d, t, rank }).collect();
+        Station::new(&read_table(&file_of_rows(&rows)).unwrap())
+    }
+
+    fn table_a() -> Station {
+        station(&[(2, 6, 8, 0), (5, 12, 12, 1)])
+    }
+
+    /// Table A after the first two ticks of the listing.
+    fn at_clock_2() -> Station {
+        let mut a = table_a();
+        assert_eq!(a.tick(3, false, false).unwrap().runner, Runner::Hard(1, Band::Lower));
+        assert_eq!(a.tick(0, false, true).unwrap().runner, Runner::Soft);
+        assert_eq!(a.clock(), 2);
+        a
+    }
+
+    fn refused<T>(number: u8, row: Option<usize>) -> Result<T, Refusal> {
+        Err(Refusal { number, row })
+    }
+
+    /// A tick without release or flag.
+    fn plain(station: &mut Station) -> Answer {
+        station.tick(0, false, false).unwrap()
+    }
+
+    // The station figures on offers.
+
+    #[test]
+    fn figure_offers_at_clock_2() {
+        assert_eq!(at_clock_2().offer(2, 4), Ok(0));
+        assert_eq!(at_clock_2().offer(3, 4), refused(18, None));
+        assert_eq!(at_clock_2().offer(2, 3), Ok(0));
+        assert_eq!(at_clock_2().offer(3, 5), refused(18, None));
+    }
+
+    #[test]
+    fn figure_offers_on_the_empty_table() {
+        let mut empty = station(&[]);
+        assert_eq!(empty.offer(5, 5), Ok(0));
+        assert_eq!(empty.offer(1, 5), refused(18, None));
+        assert_eq!(empty.offer(1, 6), Ok(1));
+    }
+
+    #[test]
+    fn figure_the_listing_step_by_step() {
+        let mut a = at_clock_2();
+        assert_eq!(a.offer(2, 4), Ok(0));
+        let runner = Runner::Firm(0);
+        assert_eq!(plain(&mut a), Answer { clock: 2, runner, closing: Closing::None });
+        let before = a.clone();
+        assert_eq!(a.tick(1, false, false), refused(14, Some(1)));
+        assert_eq!(a, before);
+        assert_eq!(plain(&mut a), Answer { clock: 3, runner, closing: Closing::None });
+        let runner = Runner::Hard(1, Band::Upper);
+        let closing = Closing::Spent(Job::Firm(0));
+        assert_eq!(plain(&mut a), Answer { clock: 4, runner, closing });
+        let runner = Runner::Hard(2, Band::Upper);
+        let closing = Closing::Done(Job::Hard(1));
+        assert_eq!(a.tick(0, true, false), Ok(Answer { clock: 5, runner, closing }));
+    }
+
+    // One test for each refusal of a tick or an offer.
+
+    #[test]
+    fn refusal_12_names_the_lowest_bit_above_n() {
+        let mut a = table_a();
+        assert_eq!(a.tick(0x8008, true, false), refused(12, Some(4)));
+        assert_eq!(a.tick(0x8003, false, false), refused(12, Some(16)));
+        assert_eq!(a, table_a());
+    }
+
+    #[test]
+    fn refusal_13() {
+        let mut a = table_a();
+        assert_eq!(a.tick(0, true, false), refused(13, None));
+        plain(&mut a);
+        assert_eq!(a.tick(0, true, false), refused(13, None));
+        a.tick(0, false, true).unwrap();
+        assert_eq!(a.tick(0, true, false), refused(13, None));
+    }
+
+    #[test]
+    fn refusal_14_until_t_ticks_have_passed() {
+        let mut a = table_a();
+        a.tick(3, false, false).unwrap();
+        a.tick(0, true, false).unwrap();
+        while a.time < 7 {
+            plain(&mut a);
+        }
+        assert_eq!(a.tick(3, false, false), refused(14, Some(1)));
+        plain(&mut a);
+        assert_eq!(a.tick(3, false, false), refused(14, Some(2)));
+        assert!(a.tick(1, false, false).is_ok());
+    }
+
+    #[test]
+    fn refusal_14_for_an_open_job_of_a_rested_row() {
+        // No fresh station gets here: the job is open for a whole T.
+        let mut a = table_a();
+        a.tick(1, false, false).unwrap();
+        a.time = 8;
+        a.last = Last::NoJob;
+        assert!(a.rows[0].rested(a.time));
+        assert_eq!(a.tick(1, false, false), refused(14, Some(1)));
+        // With the closing of this very call it is accepted.
+        a.last = Last::Hard(1);
+        assert_eq!(a.tick(1, false, false), refused(14, Some(1)));
+        assert_eq!(a.tick(1, true, false).unwrap().closing, Closing::Done(Job::Hard(1)));
+    }
+
+    #[test]
+    fn refusals_15_and_16() {
+        let mut a = table_a();
+        assert_eq!(a.offer(0, 0), refused(15, None));
+        assert_eq!(a.offer(3, 2), refused(16, None));
+        assert_eq!(a, table_a());
+    }
+
+    #[test]
+    fn refusal_17_until_the_first_job_closes() {
+        let mut empty = station(&[]);
+        for ticket in 0..8 {
+            assert_eq!(empty.offer(1, 100), Ok(ticket));
+        }
+        assert_eq!(empty.offer(0, 0), refused(15, None));
+        assert_eq!(empty.offer(2, 1), refused(16, None));
+        assert_eq!(empty.offer(100, 100), refused(17, None));
+        // Fully run, the first job still holds its place until the next tick.
+        plain(&mut empty);
+        assert_eq!(empty.offer(1, 100), refused(17, None));
+        assert_eq!(plain(&mut empty).closing, Closing::Spent(Job::Firm(0)));
+        assert_eq!(empty.offer(1, 100), Ok(8));
+    }
+
+    #[test]
+    fn refusal_18_with_room_below_0() {
+        // Both rows have U = 0, so one tick's window holds two claims.
+        let mut busy = station(&[(1, 1, 2, 0), (1, 2, 2, 1)]);
+        assert_eq!(busy.room(1), -1);
+        assert_eq!(busy.offer(1, 1), refused(18, None));
+    }
+
+    // The slips named in document 01.
+
+    #[test]
+    fn a_long_sleep_leaves_the_row_rested() {
+        for slept in [ROLL_OVER - 2, ROLL_OVER - 1, ROLL_OVER, ROLL_OVER + 3, 5 * ROLL_OVER] {
+            let mut a = table_a();
+            a.tick(1, false, false).unwrap();
+            a.tick(0, true, false).unwrap();
+            a.sleep(slept);
+            let answer = a.tick(1, false, false).unwrap();
+            assert_eq!(answer.clock, (slept + 2) % ROLL_OVER);
+            assert_eq!(answer.runner, Runner::Hard(1, Band::Lower));
+        }
+    }
+
+    #[test]
+    fn the_clock_and_the_ticket_roll_over() {
+        let mut a = table_a();
+        a.sleep(ROLL_OVER - 1);
+        a.acceptances = ROLL_OVER - 1;
+        assert_eq!(a.offer(1, 1), Ok(ROLL_OVER - 1));
+        assert_eq!(a.offer(1, 2), Ok(0));
+        assert_eq!(plain(&mut a).clock, ROLL_OVER - 1);
+        assert_eq!(plain(&mut a).clock, 0);
+    }
+
+    #[test]
+    fn promoted_from_release_and_u_on() {
+        let mut a = table_a();
+        let mut runners = Vec::new();
+        runners.push(a.tick(1, false, true).unwrap().runner);
+        for _ in 0..5 {
+            runners.push(a.tick(0, false, true).unwrap().runner);
+        }
+        let upper = Runner::Hard(1, Band::Upper);
+        let soft = Runner::Soft;
+        assert_eq!(runners, [soft, soft, soft, soft, upper, upper]);
+    }
+
+    #[test]
+    fn the_lower_band_goes_by_rank_and_the_upper_by_row() {
+        let mut two = station(&[(1, 9, 9, 1), (1, 9, 9, 0)]);
+        assert_eq!(two.tick(3, false, false).unwrap().runner, Runner::Hard(2, Band::Lower));
+        let mut two = station(&[(1, 9, 9, 1), (1, 9, 9, 0)]);
+        two.tick(3, false, true).unwrap();
+        while two.time < 8 {
+            assert_eq!(
+                two.tick(0, false, true).unwrap().runner,
+                if two.time == 8 { Runner::Hard(2, Band::Upper) } else { Runner::Soft }
+            );
+        }
+        assert_eq!(two.tick(0, false, true).unwrap().runner, Runner::Hard(1, Band::Upper));
+    }
+
+    #[test]
+    fn done_on_the_last_tick_of_the_budget_is_done() {
+        let mut empty = station(&[]);
+        empty.offer(1, 1).unwrap();
+        plain(&mut empty);
+        let answer = empty.tick(0, true, false).unwrap();
+        assert_eq!(answer.closing, Closing::Done(Job::Firm(0)));
+    }
+
+    #[test]
+    fn the_last_runner_is_remembered_across_refusals_and_offers() {
+        let mut a = table_a();
+        a.tick(1, false, false).unwrap();
+        assert_eq!(a.tick(4, true, false), refused(12, Some(3)));
+        assert_eq!(a.tick(1, true, false), refused(14, Some(1)));
+        assert_eq!(a.offer(1, 2), Ok(0));
+        let answer = a.tick(0, true, false).unwrap();
+        assert_eq!(answer.closing, Closing::Done(Job::Hard(1)));
+    }
+
+    #[test]
+    fn a_row_of_period_one_is_released_every_tick() {
+        let mut one = station(&[(1, 1, 1, 0)]);
+        assert_eq!(one.tick(1, false, true).unwrap().closing, Closing::None);
+        for _ in 0..5 {
+            let answer = one.tick(1, false, true).unwrap();
+            assert_eq!(answer.runner, Runner::Hard(1, Band::Upper));
+            assert_eq!(answer.closing, Closing::Spent(Job::Hard(1)));
+        }
+        assert_eq!(one.room(65535), 0);
+    }
+
+    #[test]
+    fn claims_of_open_and_future_jobs() {
+        let mut a = at_clock_2();
+        // Row 1: one tick left, promoted in 2; future at 6 + 4, 18, ..
+        assert_eq!(a.rows[0].open_claim(2, 4), 1);
+        assert_eq!(a.rows[0].future_claim(2, 10), 0);
+        assert_eq!(a.rows[0].future_claim(2, 11), 1);
+        assert_eq!(a.rows[0].future_claim(2, 19), 2 + 1);
+        // Row 2: five ticks left, promoted in 3; future at 10 + 5, 27, ..
+        assert_eq!(a.rows[1].open_claim(2, 3), 0);
+        assert_eq!(a.rows[1].open_claim(2, 5), 2);
+        assert_eq!(a.rows[1].open_claim(2, 50), 5);
+        assert_eq!(a.rows[1].future_claim(2, 28), 5 + 1);
+        // Closed, row 1 keeps its future claims only.
+        a.rows[0].open = None;
+        assert_eq!(a.rows[0].open_claim(2, 50), 0);
+        assert_eq!(a.rows[0].until_rested(2), 6);
+        assert_eq!(a.rows[0].until_rested(9), 0);
+    }
+}

@@ -1,0 +1,651 @@
+//! The vectors for `run`.
+
+use crate::event::{offer_field, read_event, tick_field, Event, Found};
+use crate::programs::{EVENTS_LIMIT, TABLE_LIMIT};
+use crate::random::Random;
+use crate::station::{Last, Station};
+use crate::table::read_table;
+use crate::vectors::{
+    empty_table, join, light_rows, random_accepted, rows_only, table, table_a, RunVector,
+};
+
+const DONE: u8 = 1;
+const SOFT: u8 = 2;
+
+/// All vectors for `run`.
+pub fn all() -> Vec<RunVector> {
+    let mut list = Vec::new();
+    listing_and_figures(&mut list);
+    files(&mut list);
+    tables_refused(&mut list);
+    events_refused(&mut list);
+    ticks_refused(&mut list);
+    offers_refused(&mut list);
+    choices(&mut list);
+    closings(&mut list);
+    rooms(&mut list);
+    loads(&mut list);
+    randoms(&mut list);
+    lengths(&mut list);
+    list
+}
+
+fn add(list: &mut Vec<RunVector>, name: &str, table: Vec<u8>, events: &[Vec<u8>]) {
+    add_files(list, name, Some(table), Some(join(events)));
+}
+
+fn add_files(
+    list: &mut Vec<RunVector>,
+    name: &str,
+    table: Option<Vec<u8>>,
+    events: Option<Vec<u8>>,
+) {
+    list.push(RunVector { name: name.to_string(), table, events });
+}
+
+fn tick(releases: u16, flags: u8) -> Vec<u8> {
+    tick_field(releases, flags)
+}
+
+fn offer(budget: u16, deadline: u16) -> Vec<u8> {
+    offer_field(budget, deadline)
+}
+
+/// A tick without release or flag.
+fn plain() -> Vec<u8> {
+    tick(0, 0)
+}
+
+/// As many of the same event.
+fn times(how_many: usize, event: Vec<u8>) -> Vec<u8> {
+    event.repeat(how_many)
+}
+
+fn listing_and_figures(list: &mut Vec<RunVector>) {
+    let start = join(&[tick(3, 0), tick(0, SOFT)]);
+    let rest = join(&[plain(), tick(1, 0), plain(), plain(), tick(0, DONE)]);
+    add(list, "listing", table_a(), &[start.clone(), offer(2, 4), rest]);
+    for (b, d) in [(2, 4), (3, 4), (2, 3), (3, 5)] {
+        let name = format!("figure-clock-2-offer-{b}-{d}");
+        add(list, &name, table_a(), &[start.clone(), offer(b, d), times(20, plain())]);
+    }
+    let three = join(&[offer(5, 5), offer(1, 5), offer(1, 6)]);
+    add(list, "figure-empty-table-three-offers", empty_table(), &[three, times(8, plain())]);
+}
+
+/// Files that are missing or empty.
+fn files(list: &mut Vec<RunVector>) {
+    let events = join(&[tick(1, 0), plain()]);
+    add_files(list, "files-both-missing", None, None);
+    add_files(list, "files-table-missing", None, Some(events));
+    add_files(list, "files-events-missing", Some(table_a()), None);
+    add_files(list, "files-bad-table-events-missing", Some(vec![0x0f]), None);
+    add_files(list, "files-both-empty", Some(vec![]), Some(vec![]));
+    add_files(list, "files-events-empty", Some(table_a()), Some(vec![]));
+}
+
+/// A refused table prints its line only, whatever the events.
+fn tables_refused(list: &mut Vec<RunVector>) {
+    let events = join(&[plain(), offer(1, 1), vec![0x77]]);
+    let mut refused =
+        |name: &str, table: Vec<u8>| add(list, name, table, std::slice::from_ref(&events));
+    refused("table-refusal-01-header", table_a()[..22].to_vec());
+    refused("table-refusal-01-value", table_a()[..17].to_vec());
+    refused("table-refusal-02", vec![0x22, 0x00, 0x04, 0x00, 0x01, 0x00, 0x01]);
+    refused("table-refusal-03", vec![0x0f, 0x00, 0x07]);
+    refused("table-refusal-04", join(&[table_a(), vec![0x01, 0x02, 0x03]]));
+    refused("table-refusal-05", table(&light_rows(17)));
+    refused("table-refusal-06", table(&[(1, 9, 9, 0), (0, 9, 9, 1)]));
+    refused("table-refusal-07", table(&[(9, 8, 9, 0)]));
+    refused("table-refusal-08", table(&[(8, 10, 9, 0)]));
+    refused("table-refusal-09-rank-n", table(&[(1, 9, 9, 2), (1, 9, 9, 0)]));
+    refused("table-refusal-09-rank-used", table(&[(1, 9, 9, 0), (1, 9, 9, 0)]));
+    refused("table-refusal-10", table(&[(3, 6, 6, 0), (2, 8, 8, 1), (3, 12, 12, 2)]));
+}
+
+/// 1, 2, 3 and 20: after these the program stops, good events or not.
+fn events_refused(list: &mut Vec<RunVector>) {
+    let before = join(&[tick(3, 0), offer(1, 9)]);
+    let after = join(&[plain(), offer(1, 9)]);
+    let mut stops = |name: &str, event: &[u8]| {
+        add(list, name, table_a(), &[before.clone(), event.to_vec(), after.clone()]);
+    };
+    stops("event-refusal-02-tag-23", &[0x23, 0x00, 0x03, 0x00, 0x00, 0x00]);
+    stops("event-refusal-02-tag-00", &[0x00, 0x00, 0x00]);
+    stops("event-refusal-02-row", &rows_only(&[(1, 1, 1, 0)]));
+    stops("event-refusal-02-table-end", &[0x0f, 0x00, 0x00]);
+    stops("event-refusal-02-before-03", &[0x20, 0x00, 0x09]);
+    stops("event-refusal-03-tick-of-four", &[0x21, 0x00, 0x04, 0x00, 0x00, 0x00, 0x00]);
+    stops("event-refusal-03-tick-of-two", &[0x21, 0x00, 0x02, 0x00, 0x00]);
+    stops("event-refusal-03-tick-of-none", &[0x21, 0x00, 0x00]);
+    stops("event-refusal-03-offer-of-three", &[0x22, 0x00, 0x03, 0x00, 0x01, 0x00]);
+    stops("event-refusal-03-high-byte", &[0x22, 0x01, 0x04, 0x00, 0x01, 0x00, 0x09]);
+    stops("event-refusal-20-bit-2", &tick(0, 0x04));
+    stops("event-refusal-20-bit-7-with-done", &tick(0, 0x81));
+    stops("event-refusal-20-all-bits", &tick(0, 0xff));
+    stops("event-refusal-20-before-12", &tick(0x8000, 0x08));
+    stops("event-refusal-20-before-14", &tick(1, 0x10));
+
+    let mut cut = |name: &str, event: &[u8]| {
+        add(list, name, table_a(), &[before.clone(), event.to_vec()]);
+    };
+    cut("event-refusal-01-one-byte", &[0x21]);
+    cut("event-refusal-01-one-byte-of-no-tag", &[0x77]);
+    cut("event-refusal-01-two-bytes", &[0x22, 0x00]);
+    cut("event-refusal-01-tick-without-value", &[0x21, 0x00, 0x03]);
+    cut("event-refusal-01-tick-cut-by-one", &[0x21, 0x00, 0x03, 0x00, 0x01]);
+    cut("event-refusal-01-offer-cut-by-one", &[0x22, 0x00, 0x04, 0x00, 0x01, 0x00]);
+    cut("event-refusal-03-before-01", &[0x22, 0x00, 0x05, 0x00]);
+    add(list, "event-refusal-02-first-of-all", empty_table(), &[vec![0xff, 0xff, 0xff], plain()]);
+}
+
+/// 12, 13 and 14: after these the program goes on.
+fn ticks_refused(list: &mut Vec<RunVector>) {
+    let mut on_a = |name: &str, events: &[Vec<u8>]| add(list, name, table_a(), events);
+    on_a("tick-refusal-12", &[tick(4, 0), tick(0x8001, 0), tick(3, 0), tick(0xfffc, 0), plain()]);
+    on_a("tick-refusal-12-before-13", &[tick(4, DONE), plain()]);
+    on_a("tick-refusal-12-before-14", &[tick(3, 0), tick(7, 0), plain()]);
+    on_a("tick-refusal-13-no-tick-before", &[tick(3, DONE), tick(3, 0)]);
+    on_a(
+        "tick-refusal-13-after-soft",
+        &[tick(3, SOFT), tick(0, DONE), tick(0, DONE | SOFT), plain()],
+    );
+    on_a("tick-refusal-13-after-idle", &[plain(), tick(1, DONE), tick(1, 0), tick(0, DONE)]);
+    on_a("tick-refusal-13-done-twice", &[tick(1, 0), tick(0, DONE), tick(0, DONE), plain()]);
+    on_a("tick-refusal-13-before-14", &[tick(1, SOFT), tick(1, DONE), tick(1, 0), plain()]);
+    on_a(
+        "tick-refusal-14-until-rested",
+        &[
+            tick(3, 0),
+            times(7, plain()),
+            tick(2, 0),
+            tick(1, 0),
+            times(3, plain()),
+            tick(2, 0),
+            plain(),
+        ],
+    );
+    on_a(
+        "tick-refusal-14-one-tick-early",
+        &[tick(1, 0), times(6, plain()), tick(1, 0), plain(), tick(1, 0), plain()],
+    );
+    on_a(
+        "tick-refusal-14-with-the-last-runner-kept",
+        &[tick(3, 0), tick(1, DONE), tick(2, DONE), tick(0x10, DONE), tick(0, DONE), plain()],
+    );
+    let refused = [tick(1, 0), tick(1, 0), tick(1, 0)];
+    add(list, "tick-refusal-12-empty-table", empty_table(), &refused);
+    let sixteen = table(&light_rows(16));
+    let high = [tick(0x8000, 0), tick(0x8000, 0), tick(0x7fff, 0), tick(0xffff, 0), plain()];
+    add(list, "tick-refusal-14-sixteenth-row", sixteen, &high);
+}
+
+/// 15 to 18: after these the program goes on.
+fn offers_refused(list: &mut Vec<RunVector>) {
+    let mut on_empty = |name: &str, events: &[Vec<u8>]| add(list, name, empty_table(), events);
+    on_empty(
+        "offer-refusal-15",
+        &[offer(0, 0), offer(0, 9), offer(0, 65535), offer(1, 1), plain()],
+    );
+    on_empty(
+        "offer-refusal-16",
+        &[offer(1, 0), offer(9, 8), offer(65535, 65534), offer(256, 255), offer(8, 8)],
+    );
+    let eight = times(8, offer(1, 50));
+    on_empty("offer-refusal-17-ninth", &[eight.clone(), offer(1, 50), times(10, plain())]);
+    on_empty(
+        "offer-refusal-17-after-15-and-16",
+        &[eight.clone(), offer(0, 50), offer(2, 1), offer(1, 1), plain()],
+    );
+    // The first job is fully run after one tick and closes in the next.
+    on_empty(
+        "offer-refusal-17-until-closed",
+        &[
+            eight.clone(),
+            plain(),
+            offer(1, 50),
+            plain(),
+            offer(1, 50),
+            offer(1, 50),
+            times(12, plain()),
+        ],
+    );
+    on_empty(
+        "offer-refusal-17-freed-by-done",
+        &[
+            times(8, offer(3, 50)),
+            plain(),
+            offer(3, 50),
+            tick(0, DONE),
+            offer(3, 50),
+            times(30, plain()),
+        ],
+    );
+    on_empty(
+        "offer-refusal-18-budgets-queued",
+        &[
+            offer(3, 3),
+            offer(3, 5),
+            offer(3, 6),
+            plain(),
+            offer(1, 5),
+            offer(1, 6),
+            offer(1, 7),
+            times(9, plain()),
+        ],
+    );
+    on_empty(
+        "offer-refusal-18-largest-budgets",
+        &[offer(65535, 65535), offer(1, 65535), plain(), offer(1, 65535), offer(1, 65535), plain()],
+    );
+    let one = table(&[(1, 1, 1, 0)]);
+    add(list, "offer-refusal-18-period-one", one, &[offer(1, 1), offer(1, 65535), plain()]);
+    // Both rows have U = 0: the claims are above the window.
+    let above = table(&[(1, 1, 2, 0), (1, 2, 2, 1)]);
+    add(
+        list,
+        "offer-refusal-18-room-below-zero",
+        above,
+        &[offer(1, 1), offer(1, 65535), tick(3, 0), offer(1, 1), plain()],
+    );
+}
+
+/// The order of the five choices, and the tick of promotion.
+fn choices(list: &mut Vec<RunVector>) {
+    // Row order 1, 2, 3 in the upper band; 3, 1, 2 in the lower.
+    let three = table(&[(2, 20, 20, 1), (3, 25, 25, 2), (2, 30, 30, 0)]);
+    add(list, "choice-lower-band-by-rank", three.clone(), &[tick(7, 0), times(9, plain())]);
+    add(
+        list,
+        "choice-upper-band-by-row",
+        three.clone(),
+        &[tick(7, SOFT), times(29, tick(0, SOFT))],
+    );
+    add(
+        list,
+        "choice-soft-before-lower-band",
+        three.clone(),
+        &[tick(7, 0), tick(0, SOFT), plain(), tick(0, SOFT), times(8, plain())],
+    );
+    add(
+        list,
+        "choice-firm-before-soft",
+        three.clone(),
+        &[tick(7, SOFT), offer(2, 10), offer(1, 10), times(5, tick(0, SOFT)), times(8, plain())],
+    );
+    add(
+        list,
+        "choice-promoted-before-firm",
+        three.clone(),
+        &[tick(7, SOFT), offer(16, 20), offer(10, 40), times(40, tick(0, SOFT))],
+    );
+    add(
+        list,
+        "choice-promoted-at-release-and-u",
+        table_a(),
+        &[tick(1, SOFT), times(7, tick(0, SOFT))],
+    );
+    add(
+        list,
+        "choice-u-zero-is-promoted-at-once",
+        table(&[(2, 4, 4, 0), (2, 4, 4, 1)]),
+        &[tick(2, SOFT), tick(1, SOFT), times(6, tick(0, SOFT))],
+    );
+    add(
+        list,
+        "choice-released-late-by-rank",
+        three,
+        &[tick(2, 0), tick(1, 0), tick(4, 0), times(8, plain())],
+    );
+}
+
+/// Done and spent, and what a closing leaves.
+fn closings(list: &mut Vec<RunVector>) {
+    let mut on_a = |name: &str, events: &[Vec<u8>]| add(list, name, table_a(), events);
+    on_a("closing-hard-spent", &[tick(1, 0), plain(), plain(), plain()]);
+    on_a("closing-hard-done-early", &[tick(2, 0), plain(), tick(0, DONE), plain()]);
+    on_a("closing-hard-done-at-last-tick", &[tick(1, 0), plain(), tick(0, DONE), plain()]);
+    on_a("closing-firm-done-early", &[offer(3, 4), plain(), tick(0, DONE), plain(), offer(1, 1)]);
+    on_a(
+        "closing-firm-done-at-last-tick",
+        &[offer(2, 4), plain(), plain(), tick(0, DONE), plain()],
+    );
+    on_a("closing-firm-spent", &[offer(2, 4), plain(), plain(), plain(), plain()]);
+    on_a("closing-after-an-offer", &[tick(1, 0), offer(2, 3), tick(0, DONE), times(3, plain())]);
+    on_a(
+        "closing-spent-after-an-offer",
+        &[tick(1, 0), plain(), offer(1, 2), offer(0, 0), plain(), plain()],
+    );
+    on_a(
+        "closing-and-next-firm-job",
+        &[offer(1, 4), offer(2, 4), plain(), tick(2, DONE), plain(), plain()],
+    );
+    let one = table(&[(1, 1, 1, 0)]);
+    add(
+        list,
+        "closing-and-release-in-one-call",
+        one,
+        &[
+            tick(1, 0),
+            tick(1, 0),
+            tick(1, DONE),
+            tick(0, DONE),
+            tick(0, SOFT),
+            tick(1, SOFT),
+            plain(),
+        ],
+    );
+    // The job runs up to its last tick before the row is rested.
+    let full = table(&[(4, 4, 4, 0)]);
+    let period = join(&[tick(1, 0), times(3, plain())]);
+    add(list, "closing-and-release-of-a-full-row", full, &[times(3, period), plain()]);
+}
+
+/// Offers that look at open and future jobs.
+fn rooms(list: &mut Vec<RunVector>) {
+    // On the fresh station every window is asked for one tick too much, then
+    // one window for all it has.
+    let fresh = Maker::new(&table_a());
+    let mut events = Vec::new();
+    for d in 1..=60 {
+        let most = fresh.largest_budget(d);
+        if most < d {
+            events.push(offer(most + 1, d));
+        }
+    }
+    events.push(offer(fresh.largest_budget(30), 30));
+    events.push(times(60, plain()));
+    add(list, "room-of-future-jobs", table_a(), &events);
+    let sixteen: Vec<_> = (0..16).map(|i| (1, 18 + i, 40 + i, 15 - i as u8)).collect();
+    for (name, file) in [
+        ("room-to-the-tick-table-a", table_a()),
+        ("room-to-the-tick-three-rows", table(&[(1, 4, 5, 2), (2, 9, 9, 0), (3, 14, 20, 1)])),
+        ("room-to-the-tick-sixteen-rows", table(&sixteen)),
+    ] {
+        let events = to_the_tick(&file, 150);
+        add(list, name, file, &[events]);
+    }
+    add(
+        list,
+        "room-of-open-and-future-jobs",
+        table_a(),
+        &[
+            tick(3, SOFT),
+            offer(7, 16),
+            offer(6, 16),
+            offer(5, 16),
+            times(7, tick(0, SOFT)),
+            tick(1, SOFT),
+            offer(2, 12),
+            offer(1, 12),
+            times(3, tick(0, SOFT)),
+            tick(2, SOFT),
+            offer(4, 30),
+            times(40, plain()),
+        ],
+    );
+    add(
+        list,
+        "room-of-a-closed-job-not-yet-rested",
+        table_a(),
+        &[tick(1, 0), tick(0, DONE), offer(10, 10), offer(9, 10), offer(1, 10), times(12, plain())],
+    );
+    add(
+        list,
+        "room-of-a-fully-run-open-job",
+        table_a(),
+        &[tick(1, 0), plain(), offer(5, 5), times(8, plain())],
+    );
+    add(
+        list,
+        "room-of-the-largest-window",
+        table(&[(1, 2, 2, 0)]),
+        &[
+            offer(32768, 65535),
+            offer(32768, 65534),
+            offer(32767, 65534),
+            offer(1, 65535),
+            plain(),
+            offer(1, 65535),
+            offer(1, 65535),
+            plain(),
+        ],
+    );
+    let sixteen: Vec<_> = (0..16).map(|rank| (1, 65535, 65535, rank)).collect();
+    add(
+        list,
+        "room-of-sixteen-long-rows",
+        table(&sixteen),
+        &[
+            offer(65535, 65535),
+            offer(65520, 65535),
+            offer(65519, 65535),
+            tick(0xffff, 0),
+            offer(15, 65535),
+            plain(),
+        ],
+    );
+}
+
+/// Again and again: an offer of one tick too much, an offer of all there is, a
+/// tick, and mostly a done flag in the next one.
+fn to_the_tick(table: &[u8], how_often: u64) -> Vec<u8> {
+    let mut random = Random::new(400);
+    let mut maker = Maker::new(table);
+    for _ in 0..how_often {
+        let d = random.between(1, 90) as u16;
+        let most = maker.largest_budget(d);
+        if most < d {
+            maker.event(offer(most + 1, d));
+        }
+        if most > 0 {
+            maker.event(offer(most, d));
+        }
+        for _ in 0..2 {
+            let soft = random.once_in(2);
+            maker.random_tick(&mut random, soft);
+        }
+        if matches!(maker.station.last, Last::Firm) {
+            maker.event(tick(0, DONE));
+        }
+    }
+    maker.bytes
+}
+
+/// Long runs with the soft flag always set.
+fn loads(list: &mut Vec<RunVector>) {
+    let table_b = table(&[(1, 4, 5, 2), (2, 9, 9, 0), (3, 14, 20, 1)]);
+    add(list, "load-soft-always", table_a(), &[eager(&table_a(), 400, 0)]);
+    add(list, "load-soft-always-three-rows", table_b.clone(), &[eager(&table_b, 400, 0)]);
+    add(list, "load-soft-always-with-offers", table_a(), &[eager(&table_a(), 400, 7)]);
+    add(list, "load-soft-without-hard-work", table_a(), &[times(300, tick(0, SOFT))]);
+    add(
+        list,
+        "load-full-table",
+        table(&[(2, 4, 4, 1), (2, 4, 4, 0)]),
+        &[times(50, join(&[tick(3, SOFT), times(3, tick(0, SOFT))]))],
+    );
+}
+
+/// Ticks with the soft flag that release each row as soon as it is rested, and
+/// an offer before every few of them (none if 0).
+fn eager(table: &[u8], ticks: u64, offer_every: u64) -> Vec<u8> {
+    let mut maker = Maker::new(table);
+    for count in 1..=ticks {
+        if offer_every > 0 && count % offer_every == 0 {
+            maker.event(offer(1 + (count % 4) as u16, 12 + (count % 11) as u16));
+        }
+        let mut releases = 0;
+        for row in 1..=maker.station.rows.len() {
+            if maker.station.rows[row - 1].rested(maker.station.time) {
+                releases += bit(row);
+            }
+        }
+        maker.event(tick(releases, SOFT));
+    }
+    maker.bytes
+}
+
+/// The release set with this row only, counted from 1.
+fn bit(row: usize) -> u16 {
+    2_u16.pow(row as u32 - 1)
+}
+
+/// A list of events, and the station they lead to: what the next event may be
+/// is looked up there.
+struct Maker {
+    station: Station,
+    bytes: Vec<u8>,
+}
+
+impl Maker {
+    fn new(table: &[u8]) -> Maker {
+        let table = read_table(table).expect("the table is good");
+        Maker { station: Station::new(&table), bytes: Vec::new() }
+    }
+
+    /// Adds an event and gives it to the station, refused or not.
+    fn event(&mut self, field: Vec<u8>) {
+        match read_event(&field, 0) {
+            Found::Event(Event::Tick { releases, done, soft }, _) => {
+                let _ = self.station.tick(releases, done, soft);
+            }
+            Found::Event(Event::Offer { budget, deadline }, _) => {
+                let _ = self.station.offer(budget, deadline);
+            }
+            _ => panic!("a made event is whole"),
+        }
+        self.bytes.extend(field);
+    }
+
+    /// A random tick: mostly one that is accepted.
+    fn random_tick(&mut self, random: &mut Random, soft: bool) {
+        let mut releases = 0;
+        for row in 1..=16 {
+            let released = match self.station.rows.get(row - 1) {
+                Some(hard) if hard.rested(self.station.time) => random.once_in(6),
+                Some(_) => random.once_in(400),
+                None => random.once_in(900),
+            };
+            if released {
+                releases += bit(row);
+            }
+        }
+        let ran_job = matches!(self.station.last, Last::Hard(_) | Last::Firm);
+        let done = random.once_in(if ran_job { 5 } else { 50 });
+        let mut flags = 0;
+        if done {
+            flags += DONE;
+        }
+        if soft {
+            flags += SOFT;
+        }
+        self.event(tick(releases, flags));
+    }
+
+    /// The largest budget with room in this window, 0 if none.
+    fn largest_budget(&self, d: u16) -> u16 {
+        (self.station.room(d) - self.station.unrun_budgets()).max(0) as u16
+    }
+
+    /// A random offer: budgets from 0, windows up to `longest`. Now and then it
+    /// asks for one tick more than there is room for.
+    fn random_offer(&mut self, random: &mut Random, longest: u64) {
+        if random.once_in(4) {
+            let d = random.between(1, longest) as u16;
+            let most = self.largest_budget(d);
+            if most < d {
+                self.event(offer(most + 1, d));
+                return;
+            }
+        }
+        let budget = random.below(longest / 8 + 2);
+        let deadline = random.between(budget.saturating_sub(1), longest);
+        self.event(offer(budget as u16, deadline as u16));
+    }
+
+    /// As many ticks and offers, mixed. Soft work comes and goes in spells.
+    fn mixed(&mut self, random: &mut Random, ticks: u64, offers: u64, longest: u64) {
+        let (mut ticks, mut offers) = (ticks, offers);
+        let mut spell = false;
+        while ticks + offers > 0 {
+            if random.once_in(20) {
+                spell = !spell;
+            }
+            if random.below(ticks + offers) < offers {
+                offers -= 1;
+                self.random_offer(random, longest);
+            } else {
+                ticks -= 1;
+                let soft = if random.once_in(5) { !spell } else { spell };
+                self.random_tick(random, soft);
+            }
+        }
+    }
+}
+
+/// Random runs of random tables.
+fn randoms(list: &mut Vec<RunVector>) {
+    for seed in 1..=3 {
+        let mut random = Random::new(100 + seed);
+        let file = random_accepted(&mut random, 16, 600);
+        let mut maker = Maker::new(&file);
+        maker.mixed(&mut random, 700, 120, 150);
+        add(list, &format!("random-sixteen-rows-{seed}"), file, &[maker.bytes]);
+    }
+    for seed in 1..=24 {
+        let mut random = Random::new(200 + seed);
+        let n = random.between(0, 8);
+        let longest = [12, 40, 150][seed as usize % 3];
+        let file = random_accepted(&mut random, n, longest * 1.max(n / 3));
+        let mut maker = Maker::new(&file);
+        maker.mixed(&mut random, 200, 40, 2 * longest);
+        let mut events = maker.bytes;
+        // The last ones end in a cut event.
+        if seed > 20 {
+            events.truncate(events.len() - 1 - random.below(5) as usize);
+        }
+        add(list, &format!("random-{seed:02}"), file, &[events]);
+    }
+}
+
+/// Files at their limits and above.
+fn lengths(list: &mut Vec<RunVector>) {
+    let filled = |size: usize| {
+        let mut bytes = table_a();
+        bytes.resize(size, 0x00);
+        bytes
+    };
+    let full = filled(TABLE_LIMIT);
+    let over = filled(TABLE_LIMIT + 1);
+    add(list, "length-table-256-gives-04", full.clone(), &[plain()]);
+    add(list, "length-table-257-too-long", over.clone(), &[plain()]);
+    add_files(list, "length-table-257-events-missing-too-long", Some(over), None);
+
+    // 9,300 ticks of six bytes and 600 offers of seven are 60,000 bytes. The
+    // last row rests for 5,000 ticks.
+    let file = table(&[(2, 6, 8, 1), (5, 12, 12, 2), (3, 5000, 5000, 0)]);
+    let mut maker = Maker::new(&file);
+    maker.event(tick(4, 0));
+    let mut random = Random::new(300);
+    maker.mixed(&mut random, 4997, 300, 40);
+    while maker.station.time < 4999 {
+        maker.event(plain());
+    }
+    maker.event(tick(4, 0));
+    maker.event(plain());
+    maker.event(tick(4, 0));
+    let left = EVENTS_LIMIT - maker.bytes.len() - 7 * 300;
+    maker.mixed(&mut random, left as u64 / 6, 300, 40);
+    let events = maker.bytes;
+    assert_eq!(events.len(), EVENTS_LIMIT);
+    add(list, "length-events-60000", file.clone(), std::slice::from_ref(&events));
+    add(list, "length-events-60001-too-long", file, &[events.clone(), vec![0x21]]);
+
+    // Of no use to look into: the length is decided first.
+    let zeros = vec![0; EVENTS_LIMIT + 1];
+    add_files(list, "length-events-60001-table-missing-too-long", None, Some(zeros));
+    let last_cut = join(&[times(EVENTS_LIMIT / 6 - 1, tick(0, SOFT)), offer(1, 1)[..6].to_vec()]);
+    add(list, "length-events-60000-last-cut", empty_table(), &[last_cut]);
+    add(list, "length-events-60000-with-full-table", full, &[events]);
+}

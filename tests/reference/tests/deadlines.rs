@@ -1,0 +1,89 @@
+//! A check of the rules as they are read here: in random runs every hard job
+//! has its C by its deadline, and every accepted firm job its budget by its own.
+
+use reference::random::Random;
+use reference::station::{releases_row, Closing, Job, Last, Runner, Station};
+use reference::table::read_table;
+use reference::vectors::random_accepted;
+
+/// A firm job that was accepted, with the tick its budget must be run by.
+struct Promise {
+    number: u128,
+    by: u128,
+}
+
+/// A release set with random rested rows.
+fn random_releases(random: &mut Random, station: &Station) -> u16 {
+    let mut releases = 0;
+    for (index, hard) in station.rows.iter().enumerate() {
+        if hard.rested(station.time) && !random.once_in(3) {
+            releases += 2_u16.pow(index as u32);
+        }
+    }
+    releases
+}
+
+fn check_hard(station: &Station) {
+    for hard in &station.rows {
+        if let Some(job) = &hard.open {
+            let in_time = station.time < job.release + u128::from(hard.row.d);
+            assert!(in_time || job.run == u128::from(hard.row.c), "a hard job is late");
+        }
+    }
+}
+
+fn check_firm(station: &Station, promises: &[Promise]) {
+    for promise in promises {
+        let Some(job) = station.firm.iter().find(|job| job.number == promise.number) else {
+            continue;
+        };
+        assert!(station.time < promise.by || job.run == job.budget, "a firm job is late");
+    }
+}
+
+#[test]
+fn no_job_is_late() {
+    let (mut hard_closed, mut firm_closed, mut firm_ran) = (0, 0, 0);
+    for seed in 0..300 {
+        let mut random = Random::new(seed);
+        let n = random.between(1, 6);
+        let longest = random.between(4, 40);
+        let file = random_accepted(&mut random, n, longest * n);
+        let mut station = Station::new(&read_table(&file).unwrap());
+        let mut promises = Vec::new();
+        for _ in 0..500 {
+            if random.once_in(4) {
+                let budget = random.between(1, 6);
+                let deadline = random.between(budget, 60);
+                let number = station.acceptances;
+                if station.offer(budget as u16, deadline as u16).is_ok() {
+                    promises.push(Promise { number, by: station.time + u128::from(deadline) });
+                }
+            }
+            let ran_job = matches!(station.last, Last::Hard(_) | Last::Firm);
+            let done = ran_job && random.once_in(10);
+            let releases = random_releases(&mut random, &station);
+            let soft = random.once_in(2);
+            let before = station.time;
+            // From a fresh station, a rested row has no open job: no 14.
+            let answer = station.tick(releases, done, soft).expect("the tick is accepted");
+            assert_eq!(station.time, before + 1);
+            for row in 1..=station.rows.len() {
+                if releases_row(releases, row) {
+                    assert_eq!(station.rows[row - 1].last_release, Some(before));
+                }
+            }
+            match answer.closing {
+                Closing::Done(Job::Hard(_)) | Closing::Spent(Job::Hard(_)) => hard_closed += 1,
+                Closing::Done(Job::Firm(_)) | Closing::Spent(Job::Firm(_)) => firm_closed += 1,
+                Closing::None => {}
+            }
+            if matches!(answer.runner, Runner::Firm(_)) {
+                firm_ran += 1;
+            }
+            check_hard(&station);
+            check_firm(&station, &promises);
+        }
+    }
+    assert!(hard_closed > 1000 && firm_closed > 1000 && firm_ran > 1000);
+}
