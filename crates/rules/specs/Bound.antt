@@ -7,6 +7,7 @@ use Rattle.rules.specs.Lists.{total, unless}
 use Rattle.rules.specs.Refusals.{passes-D, Refused, atRow}
 use Rattle.rules.specs.Rows.{Row, tableFault}
 
+-- w / T, rounded up
 abbrev pub ceil : ℕ → ℕ → ℕ
 ceil w T = (w + (T - 1)) / T
 
@@ -18,6 +19,7 @@ most r w = ceil w (r .T) * r .C
 abbrev pub f : List Row → Row → ℕ → ℕ
 f above r w = r .C + total (λ j. most j w) above
 
+-- what the iteration of a row ends in: R with the rounds taken, or no value up to D repeats
 pub data Bound : Type 0 where
   bound : (R rounds : ℕ) → Bound
   none-to-D : Bound
@@ -38,11 +40,13 @@ response above r = iterate above r (suc (r .D - r .C)) 0 (r .C)
 abbrev pub promotion : Row → ℕ → ℕ
 promotion r R = r .D - R
 
+-- a row with its bound
 pub record PlannedRow : Type 0 where
   pub row : Row
   pub R : ℕ
   pub rounds : ℕ
 
+-- the planned rows; or why, and at which row, the table is refused
 pub data Plan : Type 0 where
   planned : List PlannedRow → Plan
   unplanned : Refused → Plan

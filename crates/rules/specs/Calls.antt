@@ -17,11 +17,11 @@ pub data Call : Type 0 where
   tick-call : (set flags : ℕ) → Call
   offer-call : (B d : ℕ) → Call
 
--- flags: bit 0 done, bit 1 soft
-
+-- bit 0: the job that ran in the last accepted tick is done
 abbrev pub doneFlag : ℕ → Bool
 doneFlag flags = bit flags 0
 
+-- bit 1: soft work wants this tick
 abbrev pub softFlag : ℕ → Bool
 softFlag flags = bit flags 1
 
@@ -29,38 +29,46 @@ softFlag flags = bit flags 1
 abbrev pub otherFlag : ℕ → Bool
 otherFlag flags = leb 4 flags
 
+-- a tick call: 20, then the tick
 abbrev pub tickCall : Station → ℕ → ℕ → Ticked
 tickCall st set flags = cond (otherFlag flags) (no-tick (refusal unknown-flag)) (tick st set (doneFlag flags) (softFlag flags))
 
+-- what the caller gets: an answer, a ticket, or a refusal
 pub data Reply : Type 0 where
   answered : Answer → Reply
   took : (ticket : ℕ) → Reply
   refused : Refused → Reply
 
+-- a station after a call, and the reply
 pub record Stepped : Type 0 where
   pub station : Station
   pub reply : Reply
 
 -- a refusal leaves the station as it was
 
+-- a tick
 abbrev pub afterTick : Station → Ticked → Stepped
 afterTick st (ticked st′ a) = record { station = st′; reply = answered a }
 afterTick st (no-tick x) = record { station = st; reply = refused x }
 
+-- an offer
 abbrev pub afterOffer : Station → Offered → Stepped
 afterOffer st (accepted st′ t) = record { station = st′; reply = took t }
 afterOffer st (no-offer why) = record { station = st; reply = refused (refusal why) }
 
+-- one call
 abbrev pub step : Station → Call → Stepped
 step st (tick-call set flags) = afterTick st (tickCall st set flags)
 step st (offer-call B d) = afterOffer st (offer st B d)
 
 -- the replies to calls made one after the other, and the station after them
 
+-- the replies, in order
 abbrev pub replies : Station → List Call → List Reply
 replies st [] = []
 replies st (c ∷ cs) = step st c .reply ∷ replies (step st c .station) cs
 
+-- the station after all of them
 abbrev pub after : Station → List Call → Station
 after st [] = st
 after st (c ∷ cs) = after (step st c .station) cs
@@ -99,12 +107,14 @@ Reported x (refused y ∷ rs) = Reported x rs
 
 -- acceptances of offers: all of them, and those that return the ticket t
 
+-- all of them
 abbrev pub acceptances : List Reply → ℕ
 acceptances [] = 0
 acceptances (answered a ∷ rs) = acceptances rs
 acceptances (took t ∷ rs) = suc (acceptances rs)
 acceptances (refused x ∷ rs) = acceptances rs
 
+-- those that return t
 abbrev pub returns : ℕ → List Reply → ℕ
 returns t [] = 0
 returns t (answered a ∷ rs) = returns t rs
@@ -138,5 +148,6 @@ abbrev pub Short : Call → Type 0
 Short (tick-call set flags) = (set < 2 ^ 16) × (flags < 2 ^ 8)
 Short (offer-call B d) = (B < 2 ^ 16) × (d < 2 ^ 16)
 
+-- of all the calls
 abbrev pub AllShort : List Call → Type 0
 AllShort cs = All Short cs

@@ -10,12 +10,15 @@ use Rattle.rules.specs.Refusals.{Refusal, unknown-flag}
 use Rattle.rules.specs.Fields.{byte, word, fieldFault}
 use Rattle.rules.specs.Calls.{Call, tick-call, offer-call, otherFlag}
 
+-- a tick
 abbrev pub tickTag : ℕ
 tickTag = 0x21
 
+-- an offer
 abbrev pub offerTag : ℕ
 offerTag = 0x22
 
+-- how long the value of an event tag is
 abbrev pub eventLength : ℕ → Option ℕ
 eventLength tag = cond (eqb tag tickTag) (some 3) (cond (eqb tag offerTag) (some 4) none)
 
@@ -29,6 +32,7 @@ pub data Event : Type 0 where
 abbrev pub tickEvent : List ℕ → Event
 tickEvent s = cond (otherFlag (byte s 5)) (bad-event unknown-flag 6) (event (tick-call (word s 3) (byte s 5)) 6)
 
+-- a whole offer field
 abbrev pub offerEvent : List ℕ → Event
 offerEvent s = event (offer-call (word s 3) (word s 5)) 7
 

@@ -34,6 +34,7 @@ abbrev pub consecutive : ℕ → List Firm → Bool
 consecutive next [] = true
 consecutive next (f ∷ fs) = eqb (f .ticket) ((next + (2 ^ 32 - suc (length fs))) % 2 ^ 32) && consecutive next fs
 
+-- open, and run at least once
 abbrev pub hasRun : Job → Bool
 hasRun closed = false
 hasRun (opened run) = leb 1 run

@@ -35,6 +35,7 @@ module _ {A : Type 0} where
   All P [] = Unit {0}
   All P (a ∷ l) = P a × All P l
 
+  -- there is no fault
   abbrev pub isNone : Option A → Bool
   isNone none = true
   isNone (some a) = false

@@ -15,6 +15,7 @@ abbrev pub jobClaim : ℕ → ℕ → Job → ℕ → ℕ
 jobClaim C x closed d = 0
 jobClaim C x (opened run) d = min (C - run) (d - x)
 
+-- what the open job of a row claims, with x = max(0, release + U − t)
 abbrev pub openClaim : Slot → ℕ → ℕ
 openClaim s d = jobClaim (s .row .C) (s .U - s .age) (s .job) d
 
@@ -26,6 +27,7 @@ leaves s d k = d - (wait s + s .U + k * s .row .T)
 abbrev pub futureClaim : Slot → ℕ → ℕ
 futureClaim s d = sum d (λ k. min (s .row .C) (leaves s d k))
 
+-- the claims of all rows
 abbrev pub claims : List Slot → ℕ → ℕ
 claims ss d = total (λ s. openClaim s d + futureClaim s d) ss
 
@@ -34,6 +36,7 @@ abbrev pub unrun : List Firm → ℕ
 unrun fs = total (λ f. f .budget - f .run) fs
 
 -- room, d less the claims, is not below what firm jobs want of it
+-- 18: the room holds B and the budgets still unrun of all queued firm jobs
 abbrev pub fitsAt : List Slot → ℕ → ℕ → Bool
 fitsAt ss wanted d = leb (claims ss d + wanted) d
 
@@ -44,6 +47,7 @@ fits st B d = fitsAt (st .slots) (B + unrun (st .firms)) d
 abbrev pub queued : Firm → List Firm → List Firm
 queued f fs = fs ++ (f ∷ [])
 
+-- the accepted job
 abbrev pub newFirm : Station → ℕ → Firm
 newFirm st B = record { ticket = st .next; budget = B; run = 0 }
 
@@ -52,6 +56,7 @@ pub data Offered : Type 0 where
   accepted : Station → ℕ → Offered
   no-offer : Refusal → Offered
 
+-- the job is queued under the next ticket
 abbrev pub accept : Station → ℕ → Offered
 accept st B = accepted (record {
   clock = st .clock;

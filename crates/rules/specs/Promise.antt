@@ -54,18 +54,22 @@ DoneIsTold st = (set : ℕ) (d wants : Bool) → OnTicked (λ st′ x. closedAs 
 
 -- True time, of a row: now is the number of ticks stepped, release the tick of the row's last release, if it was ever released.
 
+-- ticks since the release, held at T; T if never released
 abbrev pub ageBy : ℕ → Option ℕ → Row → ℕ
 ageBy now none r = hold r
 ageBy now (some release) r = min (now - release) (hold r)
 
+-- never released, or T or more ticks ago
 abbrev pub restedBy : ℕ → Option ℕ → Row → Bool
 restedBy now none r = true
 restedBy now (some release) r = leb (release + r .T) now
 
+-- from tick release + U on
 abbrev pub promotedBy : ℕ → Option ℕ → ℕ → Bool
 promotedBy now none U = false
 promotedBy now (some release) U = leb (release + U) now
 
+-- what a slot then says
 pub record TrueSlot (now : ℕ) (release : Option ℕ) (s : Slot) : Type 0 where
   -- the age is the ticks since the last release, held at T, or T if there was none
   pub age-is : s .age ≡ ageBy now release (s .row)

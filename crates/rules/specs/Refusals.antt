@@ -1,6 +1,7 @@
 -- Document 01, "Numbers given instead of an answer": every refusal by its name, and its number. Assumes nothing.
 use Prim.Native.Nat.{ℕ}
 
+-- why something is refused
 pub data Refusal : Type 0 where
   -- files and events: a field is cut; its tag; its length; what stands after the end field
   cut unknown-tag wrong-length after-end : Refusal
@@ -15,6 +16,7 @@ pub data Refusal : Type 0 where
   -- the output for a table; the flags of a tick
   small-output unknown-flag : Refusal
 
+-- the number given
 abbrev pub number : Refusal → ℕ
 number cut = 1
 number unknown-tag = 2
@@ -42,8 +44,10 @@ pub record Refused : Type 0 where
   pub why : Refusal
   pub row : ℕ
 
+-- a refusal that names no row
 abbrev pub refusal : Refusal → Refused
 refusal why = record { why = why; row = 0 }
 
+-- a refusal of the row at a position
 abbrev pub atRow : Refusal → ℕ → Refused
 atRow why k = record { why = why; row = k }

@@ -8,6 +8,7 @@ use lib.ListN.{length}
 use Rattle.rules.specs.Lists.{any, orElse}
 use Rattle.rules.specs.Refusals.{Refusal, C-zero, C-over-D, D-over-T, bad-rank, Refused, atRow}
 
+-- C, D and T in ticks, and the lower rank
 pub record Row : Type 0 where
   pub C : ℕ
   pub D : ℕ
@@ -35,5 +36,6 @@ abbrev pub rowsFault : ℕ → List Row → ℕ → List Row → Option Refused
 rowsFault n earlier i [] = none
 rowsFault n earlier i (r ∷ rs) = orElse (Option·map (λ why. atRow why i) (rowFault n earlier r)) (rowsFault n (r ∷ earlier) (suc i) rs)
 
+-- the first of 6 to 9 that a table fails
 abbrev pub tableFault : List Row → Option Refused
 tableFault rs = rowsFault (length rs) [] 0 rs

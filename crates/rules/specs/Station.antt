@@ -13,12 +13,14 @@ pub data Job : Type 0 where
   closed : Job
   opened : ℕ → Job
 
+-- a row in force: its promotion time, its age and its job
 pub record Slot : Type 0 where
   pub row : Row
   pub U : ℕ
   pub age : ℕ
   pub job : Job
 
+-- an accepted upload, with the ticks that it has run
 pub record Firm : Type 0 where
   pub ticket : ℕ
   pub budget : ℕ
@@ -46,9 +48,11 @@ hold r = r .T
 abbrev pub wait : Slot → ℕ
 wait s = s .row .T - s .age
 
+-- never released, or T or more ticks have passed since
 abbrev pub rested : Slot → Bool
 rested s = eqb (wait s) 0
 
+-- the job is open
 abbrev pub isOpen : Job → Bool
 isOpen closed = false
 isOpen (opened run) = true
@@ -57,6 +61,7 @@ isOpen (opened run) = true
 abbrev pub promoted : Slot → Bool
 promoted s = isOpen (s .job) && leb (s .U) (s .age)
 
+-- open, and not promoted yet
 abbrev pub unpromoted : Slot → Bool
 unpromoted s = isOpen (s .job) && not (leb (s .U) (s .age))
 
@@ -70,9 +75,11 @@ rowsOf ss = map (λ s. s .row) ss
 
 -- the fresh state of a planned table: every row rested, no job, the clock at 0
 
+-- a row
 abbrev pub freshSlot : PlannedRow → Slot
 freshSlot p = record { row = p .row; U = promotion (p .row) (p .R); age = hold (p .row); job = closed }
 
+-- the station
 abbrev pub freshStation : List PlannedRow → Station
 freshStation ps = record { clock = 0; slots = map freshSlot ps; firms = []; next = 0; last = nobody }
 

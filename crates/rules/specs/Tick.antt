@@ -9,23 +9,28 @@ use Rattle.rules.specs.Lists.{each, find, any, orElse, unless, firstOf}
 use Rattle.rules.specs.Refusals.{unknown-row, none-ran, not-ready, Refused, refusal, atRow}
 use Rattle.rules.specs.Station.{Job, closed, opened, Slot, Firm, Last, nobody, row-at, firm-of, Station, hold, rested, isOpen, promoted, unpromoted, withJob}
 
+-- promoted, or not
 pub data Band : Type 0 where
   upper lower : Band
 
+-- who runs: a hard row with its band, a firm ticket, soft, or idle
 pub data Runner : Type 0 where
   hard : ℕ → Band → Runner
   firm : ℕ → Runner
   soft : Runner
   idle : Runner
 
+-- how a job closes
 pub data How : Type 0 where
   done spent : How
 
+-- what closes: nothing, the job of a hard row, or the firm job of a ticket
 pub data Closing : Type 0 where
   nothing : Closing
   hard-job : ℕ → How → Closing
   firm-job : ℕ → How → Closing
 
+-- how the job of a closing closed, if one did
 abbrev pub closedAs : Closing → Option How
 closedAs nothing = none
 closedAs (hard-job k how) = some how
@@ -62,6 +67,7 @@ fullAt i ss = any (λ k s. eqb k i && fullyRun (s .row .C) (s .job)) 0 ss
 abbrev pub fullOf : ℕ → List Firm → Bool
 fullOf t fs = any (λ k f. eqb (f .ticket) t && leb (f .budget) (f .run)) 0 fs
 
+-- the slot with its job closed
 abbrev pub shut : Slot → Slot
 shut s = withJob s (s .age) closed
 
@@ -74,10 +80,12 @@ abbrev pub without : ℕ → List Firm → List Firm
 without t [] = []
 without t (f ∷ fs) = cond (eqb (f .ticket) t) (without t fs) (f ∷ without t fs)
 
+-- the station after closing, and what closed
 pub record Closed : Type 0 where
   pub station : Station
   pub closing : Closing
 
+-- the job of the row at i closes so, if it does
 abbrev pub closeRow : Station → ℕ → Option How → Closed
 closeRow st i none = record { station = st; closing = nothing }
 closeRow st i (some how) = record {
@@ -85,6 +93,7 @@ closeRow st i (some how) = record {
   closing = hard-job i how;
 }
 
+-- the firm job of ticket t closes so, if it does
 abbrev pub closeFirm : Station → ℕ → Option How → Closed
 closeFirm st t none = record { station = st; closing = nothing }
 closeFirm st t (some how) = record {
@@ -92,6 +101,7 @@ closeFirm st t (some how) = record {
   closing = firm-job t how;
 }
 
+-- the last runner closes
 abbrev pub closeLast : Station → Bool → Last → Closed
 closeLast st d nobody = record { station = st; closing = nothing }
 closeLast st d (row-at i) = closeRow st i (closesAs d (fullAt i (st .slots)))
@@ -103,6 +113,7 @@ close st d = closeLast st d (st .last)
 
 -- 2. Release
 
+-- a job opens, nothing run
 abbrev pub released : Slot → Slot
 released s = withJob s 0 (opened 0)
 
@@ -145,6 +156,7 @@ choose ss fs wants = Option·getD (orElse (upperRunner ss) (orElse (firmRunner f
 
 -- 4. Run
 
+-- the job that runs is the last runner of the next tick
 abbrev pub lastOf : Runner → Last
 lastOf (hard i band) = row-at i
 lastOf (firm t) = firm-of t
@@ -163,6 +175,7 @@ lastTo nobody u = false
 lastTo (row-at i) u = false
 lastTo (firm-of t) u = eqb u t
 
+-- one tick more run
 abbrev pub ranOnce : Job → Job
 ranOnce closed = closed
 ranOnce (opened run) = opened (suc run)
@@ -175,9 +188,11 @@ passed ran s = withJob s (min (suc (s .age)) (hold (s .row))) (cond ran (ranOnce
 abbrev pub passedFirm : Bool → Firm → Firm
 passedFirm ran f = record { ticket = f .ticket; budget = f .budget; run = cond ran (suc (f .run)) (f .run) }
 
+-- one tick passes for all rows
 abbrev pub passRows : Last → List Slot → List Slot
 passRows l ss = each (λ k s. passed (lastAt l k) s) 0 ss
 
+-- one tick passes for the queue
 abbrev pub passFirms : Last → List Firm → List Firm
 passFirms l fs = map (λ f. passedFirm (lastTo l (f .ticket)) f) fs
 
@@ -216,6 +231,7 @@ tickFault st set d =
 
 -- the tick
 
+-- the station after an accepted tick with the answer; or the refusal
 pub data Ticked : Type 0 where
   ticked : Station → Answer → Ticked
   no-tick : Refused → Ticked
