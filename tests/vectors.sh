@@ -22,5 +22,13 @@ for vector in "$root"/tests/vectors/plan/*/; do
     compare "${vector%/}"
 done
 
+for vector in "$root"/tests/vectors/run/*/; do
+    mkdir "$work/files"
+    find "$vector" -name '*.bin' -exec cp {} "$work/files" \;
+    (cd "$work/files" && "$root/target/bin/run") > "$work/got"
+    rm -r "$work/files"
+    compare "${vector%/}"
+done
+
 echo "vectors: $((count - bad)) of $count as wanted"
 [ "$count" -gt 0 ] && [ "$bad" -eq 0 ]

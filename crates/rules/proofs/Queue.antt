@@ -71,7 +71,7 @@ queued-live t B r δ (f ∷ fs) (a, as′) (inr (o, h)) = queued-live t B r δ f
 
 -- close
 
-others-not-full : (t i : ℕ) (fs : List Firm) → All (Other t) fs → any (λ k f. eqb (f .ticket) t && leb (f .budget) (f .run)) i fs ≡ false
+pub others-not-full : (t i : ℕ) (fs : List Firm) → All (Other t) fs → any (λ k f. eqb (f .ticket) t && leb (f .budget) (f .run)) i fs ≡ false
 others-not-full t i [] o = refl
 others-not-full t i (f ∷ fs) (o, os) = rw (ne-eqb (f .ticket) t o) (others-not-full t (suc i) fs os)
 

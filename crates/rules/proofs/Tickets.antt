@@ -38,7 +38,7 @@ not-next next l (f ∷ fs) h (q, T) = (λ e. no-wrap next (suc (length fs)) l (o
 pub next-new : (st : Station) → Tickets st → All (Other (st .next)) (st .firms)
 next-new st T = not-next (st .next) (T .next-lt) (st .firms) (T .few) (T .to-next)
 
-without-others : (t : ℕ) (fs : List Firm) → All (Other t) fs → without t fs ≡ fs
+pub without-others : (t : ℕ) (fs : List Firm) → All (Other t) fs → without t fs ≡ fs
 without-others t [] o = refl
 without-others t (f ∷ fs) (o, os) = rw (ne-eqb (f .ticket) t o) (ap (λ l. f ∷ l) (without-others t fs os))
 
@@ -47,7 +47,7 @@ without-others t (f ∷ fs) (o, os) = rw (ne-eqb (f .ticket) t o) (ap (λ l. f �
 abbrev QueueOk : ℕ → List Firm → Type 0
 QueueOk next fs = (length fs ≤ 8) × TicketsTo next fs
 
-close-tickets : (st : Station) (d : Bool) → Tickets st → QueueOk (st .next) (close st d .station .firms)
+pub close-tickets : (st : Station) (d : Bool) → Tickets st → QueueOk (st .next) (close st d .station .firms)
 close-tickets st d T = on-close (λ c. QueueOk (st .next) (c .station .firms)) st d (λ s. (T .few, T .to-next)) (λ i how l e. (T .few, T .to-next))
     (λ t how l e. less t (st .firms) (rw l at (T .first)) (T .few, T .to-next))
   where

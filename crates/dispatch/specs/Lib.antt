@@ -1,0 +1,9 @@
+pub mod Meaning
+pub mod Answers
+pub mod Sets
+pub mod Steps
+pub mod Refines
+pub mod OfferSteps
+pub mod OfferAnswers
+pub mod Planned
+pub mod Below

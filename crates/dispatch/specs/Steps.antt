@@ -1,0 +1,170 @@
+-- What the steps of the tick compute on the arrays, close to the code. Assumes nothing.
+use Prim.Native.Nat.{ℕ, _+_, _-_, _%_, _^_}
+use mathlib.Core.Bool.{Bool, false, cond}
+use mathlib.Core.List.{List, [], _∷_}
+use lib.Bits.{bitAnd, bitOr}
+use lib.Dec.{ltb, eqb}
+use lib.ListN.{replicate, set}
+use Rattle.dispatch.specs.declared.Band.the-variants.{Upper, Lower}
+use Rattle.dispatch.specs.declared.Closing.{Closing}
+use Rattle.dispatch.specs.declared.Closing.the-variants.{Nothing, HardDone, HardSpent, FirmDone, FirmSpent}
+use Rattle.dispatch.specs.declared.Rows.{Rows}
+use Rattle.dispatch.specs.declared.Runner.{Runner}
+use Rattle.dispatch.specs.declared.Runner.the-variants.{Hard, Firm, Soft, Idle}
+use Rattle.dispatch.specs.declared.State.{State}
+use Rattle.dispatch.specs.declared.Ticked.{Ticked}
+use Rattle.dispatch.specs.declared.Verdict.the-variants.{Stepped, Unknown, NoneRan, NotReady}
+use Rattle.dispatch.specs.declared.sets.Best.{Best}
+use Rattle.dispatch.specs.Meaning.{entry}
+use Rattle.dispatch.specs.Sets.{agedAt, foldRows, known, least, lowAt, marked, noBest, others, rowsThat, upto}
+
+-- the state with these in place of its clock, open rows, rested rows and stamps
+abbrev pub retimed : State → ℕ → ℕ → ℕ → List ℕ → State
+retimed s clock o rested stamp = record {
+  clock = clock;
+  next = s .next;
+  «open» = o;
+  rested = rested;
+  last = s .last;
+  count = s .count;
+  run = s .run;
+  stamp = stamp;
+  budget = s .budget;
+  used = s .used;
+  ticket = s .ticket;
+}
+
+-- the state with these in place of its open rows, last runner, ticks run and firm jobs
+abbrev pub reworked : State → ℕ → ℕ → List ℕ → ℕ → List ℕ → List ℕ → List ℕ → State
+reworked s o last run count budget used ticket = record {
+  clock = s .clock;
+  next = s .next;
+  «open» = o;
+  rested = s .rested;
+  last = last;
+  count = count;
+  run = run;
+  stamp = s .stamp;
+  budget = budget;
+  used = used;
+  ticket = ticket;
+}
+
+-- 1. Close
+
+abbrev pub closingIn : Rows → State → Bool → Closing
+closingIn rows s d =
+    cond (ltb (s .last) 16)
+    (cond d (HardDone (s .last)) (cond (ltb (entry (s .run) (s .last)) (entry (rows .c) (s .last))) Nothing (HardSpent (s .last))))
+    (cond (eqb (s .last) 16)
+    (cond d (FirmDone (entry (s .ticket) 0)) (cond (ltb (entry (s .used) 0) (entry (s .budget) 0)) Nothing (FirmSpent (entry (s .ticket) 0))))
+    Nothing)
+
+abbrev pub shutRow : State → ℕ → State
+shutRow s i =
+    cond (ltb i 16) (reworked s (bitAnd (s .«open») (others (2 ^ i))) (s .last) (set (s .run) i 0) (s .count) (s .budget) (s .used) (s .ticket)) s
+
+-- an array of eight without its first element
+abbrev pub shifted : List ℕ → List ℕ
+shifted a = entry a 1 ∷ entry a 2 ∷ entry a 3 ∷ entry a 4 ∷ entry a 5 ∷ entry a 6 ∷ entry a 7 ∷ 0 ∷ []
+
+abbrev pub popped : State → State
+popped s = reworked s (s .«open») (s .last) (s .run) (s .count - 1) (shifted (s .budget)) (shifted (s .used)) (shifted (s .ticket))
+
+abbrev pub closedBy : State → Closing → State
+closedBy s Nothing = s
+closedBy s (HardDone i) = shutRow s i
+closedBy s (HardSpent i) = shutRow s i
+closedBy s (FirmDone t) = popped s
+closedBy s (FirmSpent t) = popped s
+
+-- 2. Release
+
+abbrev pub releasedBy : State → ℕ → State
+releasedBy s set = retimed s (s .clock) (bitOr (s .«open») set) (bitAnd (s .rested) (others set)) (upto (marked set (s .clock)) 16 (s .stamp))
+
+-- 3. Choose
+
+abbrev pub promotedRows : Rows → State → ℕ
+promotedRows rows s = bitAnd (s .«open») (bitOr (s .rested) (rowsThat (agedAt (rows .u) (s .stamp) (s .clock)) 16))
+
+abbrev pub lowerOf : Best → Runner
+lowerOf best = cond (ltb (best .rank) 256) (Hard (best .row) Lower) Idle
+
+abbrev pub chosenIn : Rows → State → Bool → Runner
+chosenIn rows s soft =
+    let upper = least (promotedRows rows s) in
+    cond (ltb upper 16) (Hard upper Upper)
+    (cond (ltb 0 (s .count)) (Firm (entry (s .ticket) 0))
+    (cond soft Soft (lowerOf (foldRows (lowAt (rows .rank) (s .«open»)) 0 16 noBest))))
+
+-- 4. Run
+
+abbrev pub bumped : ℕ → ℕ
+bumped x = cond (ltb x 65535) (x + 1) x
+
+abbrev pub ranRow : State → ℕ → State
+ranRow s i = cond (ltb i 16) (reworked s (s .«open») i (set (s .run) i (bumped (entry (s .run) i))) (s .count) (s .budget) (s .used) (s .ticket)) s
+
+abbrev pub ranFirst : State → State
+ranFirst s = reworked s (s .«open») 16 (s .run) (s .count) (s .budget) (set (s .used) 0 (bumped (entry (s .used) 0))) (s .ticket)
+
+abbrev pub ranNone : State → State
+ranNone s = reworked s (s .«open») 17 (s .run) (s .count) (s .budget) (s .used) (s .ticket)
+
+abbrev pub ranIn : State → Runner → State
+ranIn s (Hard i band) = ranRow s i
+ranIn s (Firm t) = ranFirst s
+ranIn s Soft = ranNone s
+ranIn s Idle = ranNone s
+
+abbrev pub nextClock : State → ℕ
+nextClock s = (s .clock + 1) % 2 ^ 32
+
+-- the rows rested at the next tick
+abbrev pub restedNext : Rows → State → ℕ
+restedNext rows s = bitOr (s .rested) (bitAnd (rowsThat (agedAt (rows .t) (s .stamp) (nextClock s)) 16) (known (rows .n)))
+
+abbrev pub advanced : Rows → State → State
+advanced rows s = retimed s (nextClock s) (s .«open») (restedNext rows s) (upto (marked (restedNext rows s) 0) 16 (s .stamp))
+
+-- the tick
+
+-- 2 to 4, once the last job is closed
+unfoldable pub steppedIn : Rows → State → ℕ → Bool → Closing → Ticked
+steppedIn rows s set soft closing =
+    let runner = chosenIn rows (releasedBy s set) soft in record {
+      verdict = Stepped (record { clock = s .clock; runner = runner; closing = closing });
+      state = advanced rows (ranIn (releasedBy s set) runner);
+    }
+
+-- 14 and the steps, once the last job of s is closed, which gives t
+unfoldable pub readied : Rows → State → State → ℕ → Bool → Closing → Ticked
+readied rows s t set soft closing =
+    let unready = least (bitAnd set (bitOr (t .«open») (others (t .rested)))) in
+    cond (ltb unready 16) (record { verdict = NotReady unready; state = s }) (steppedIn rows t set soft closing)
+
+-- 12, 13, 14, and the steps; a refusal leaves the state as it was
+unfoldable pub tickIn : Rows → State → ℕ → Bool → Bool → Ticked
+tickIn rows s set d soft =
+    let unknown = least (bitAnd set (others (known (rows .n)))) in
+    let closing = closingIn rows s d in
+    cond (ltb unknown 16) (record { verdict = Unknown unknown; state = s })
+    (cond (cond d (ltb 16 (s .last)) false) (record { verdict = NoneRan; state = s })
+    (readied rows s (closedBy s closing) set soft closing))
+
+-- every row rested, the clock at 0, nobody ran
+unfoldable pub freshIn : ℕ → State
+freshIn n = record {
+  clock = 0;
+  next = 0;
+  «open» = 0;
+  rested = known n;
+  last = 17;
+  count = 0;
+  run = replicate 16 0;
+  stamp = replicate 16 0;
+  budget = replicate 8 0;
+  used = replicate 8 0;
+  ticket = replicate 8 0;
+}
