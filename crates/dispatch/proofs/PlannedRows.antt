@@ -30,7 +30,7 @@ noRow = record { C = 0; D = 0; T = 0; rank = 0 }
 abbrev noPlan : PlannedRow
 noPlan = record { row = noRow; R = 0; rounds = 0 }
 
-length-fill : (n : ℕ) (l : List ℕ) → length (fill n l) ≡ n
+pub length-fill : (n : ℕ) (l : List ℕ) → length (fill n l) ≡ n
 length-fill zero l = refl
 length-fill (suc n) [] = ap suc (length-fill n [])
 length-fill (suc n) (x ∷ l) = ap suc (length-fill n l)

@@ -1,0 +1,86 @@
+# The C side. What is built lands under target/.
+#
+#   make lib                  prove the library and write it as an archive
+#   make kernel               the example, target/c/kernel
+#   make test-c               the C tests and the example: plain, as C++, under sanitizers, under valgrind
+#   make install PREFIX=DIR   library, header and pkg-config file under DIR (default /usr/local)
+#   make test-install         install to a temporary place, and build the example through pkg-config
+#   make clean                remove target/c
+
+PREFIX = /usr/local
+LIB = target/staticlib/libboard.a
+OUT = target/c
+
+CC = gcc
+CXX = g++
+WARNINGS = -Wall -Wextra -Werror -pedantic
+CFLAGS = -std=c99 -O2 -g $(WARNINGS)
+CXXFLAGS = -std=c++11 -O2 -g $(WARNINGS)
+SANITIZE = -O1 -fsanitize=address,undefined -fno-sanitize-recover=all
+VALGRIND = valgrind --quiet --error-exitcode=1 --leak-check=full
+
+HEADER = include/heechstjer.h
+PROGRAMS = answers answers-sanitized kernel kernel-sanitized kernel-cpp page
+
+SHELL = bash
+.SHELLFLAGS = -euo pipefail -c
+.PHONY: lib kernel test-c install test-install clean
+.DELETE_ON_ERROR:
+
+lib: $(LIB)
+kernel: $(OUT)/kernel
+
+target/staticlib/libboard.a: crates.txt $(shell find crates -type f)
+	rt staticlib board
+	touch $@
+
+$(OUT):
+	mkdir -p $@
+
+$(OUT)/%: examples/%.c $(HEADER) $(LIB) | $(OUT)
+	$(CC) $(CFLAGS) -Iinclude $< $(LIB) -o $@
+
+$(OUT)/%: tests/c/%.c $(HEADER) $(LIB) | $(OUT)
+	$(CC) $(CFLAGS) -Iinclude $< $(LIB) -o $@
+
+$(OUT)/%-sanitized: examples/%.c $(HEADER) $(LIB) | $(OUT)
+	$(CC) $(CFLAGS) $(SANITIZE) -Iinclude $< $(LIB) -o $@
+
+$(OUT)/%-sanitized: tests/c/%.c $(HEADER) $(LIB) | $(OUT)
+	$(CC) $(CFLAGS) $(SANITIZE) -Iinclude $< $(LIB) -o $@
+
+$(OUT)/%-cpp: examples/%.c $(HEADER) $(LIB) | $(OUT)
+	$(CXX) $(CXXFLAGS) -Iinclude -x c++ $< -x none $(LIB) -o $@
+
+# The example on the first page of the docs.
+$(OUT)/page.c: docs/c-interface.md | $(OUT)
+	sed '1,/^```c$$/d; /^```$$/,$$d' $< > $@
+
+$(OUT)/page: $(OUT)/page.c $(HEADER) $(LIB)
+	$(CC) $(CFLAGS) -Iinclude $< $(LIB) -o $@
+
+test-c: $(PROGRAMS:%=$(OUT)/%)
+	$(OUT)/answers
+	$(OUT)/answers-sanitized | grep -v '^ok '
+	$(VALGRIND) $(OUT)/answers | grep -v '^ok '
+	$(OUT)/kernel | diff tests/c/kernel.want -
+	$(OUT)/kernel-cpp | diff tests/c/kernel.want -
+	$(OUT)/kernel-sanitized | diff tests/c/kernel.want -
+	$(VALGRIND) $(OUT)/kernel | diff tests/c/kernel.want -
+	test "$$($(OUT)/page)" = "F0 arrived"
+
+install: $(LIB)
+	install -d $(DESTDIR)$(PREFIX)/include $(DESTDIR)$(PREFIX)/lib/pkgconfig
+	install -m 644 $(HEADER) $(DESTDIR)$(PREFIX)/include/heechstjer.h
+	install -m 644 $(LIB) $(DESTDIR)$(PREFIX)/lib/libheechstjer.a
+	install -m 644 heechstjer.pc $(DESTDIR)$(PREFIX)/lib/pkgconfig/heechstjer.pc
+
+test-install: $(LIB)
+	prefix=$$(mktemp -d); trap 'rm -rf "$$prefix"' EXIT; \
+	$(MAKE) --no-print-directory install PREFIX="$$prefix" DESTDIR=; \
+	export PKG_CONFIG_PATH="$$prefix/lib/pkgconfig"; \
+	$(CC) $(CFLAGS) examples/kernel.c $$(pkg-config --cflags --libs heechstjer) -o "$$prefix/kernel"; \
+	"$$prefix/kernel" | diff tests/c/kernel.want -
+
+clean:
+	rm -rf $(OUT)

@@ -1,0 +1,16 @@
+pub mod Arrays
+pub mod Lengths
+pub mod Ors
+pub mod ReadBack
+pub mod Trip
+pub mod Parts
+pub mod Whole
+pub mod Bits
+pub mod Entered
+pub mod RankSets
+pub mod Tested
+pub mod Numbers
+pub mod Meant
+pub mod Held
+pub mod Bytes
+pub mod Results

@@ -1,0 +1,27 @@
+-- `checks::firm_fault` meets its contract. Assumes nothing.
+use borrow.Author.Needs.{needs}
+use Rattle.block.proofs.checks.firm_fault.Statement.{statement}
+use Rattle.block.proofs.checks.firm_fault.Tie as tie
+
+over-requires : tie.Need-over-requires
+over-requires c κs = search needs
+
+pick-requires : tie.Need-pick-requires
+pick-requires c κs = search needs
+
+pick-requires-2 : tie.Need-pick-requires-2
+pick-requires-2 c κs = search needs
+
+over-requires-2 : tie.Need-over-requires-2
+over-requires-2 c κs = search needs
+
+over-requires-3 : tie.Need-over-requires-3
+over-requires-3 c κs = search needs
+
+returns : tie.Need-returns
+returns c = cc
+
+pub firm-fault-spec : {M : Type 1} → statement M
+firm-fault-spec =
+    tie.close
+    (tie.spec over-requires pick-requires pick-requires-2 over-requires-2 over-requires-3 returns)

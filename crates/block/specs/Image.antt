@@ -1,0 +1,35 @@
+-- What a block holds, and the promises of decoding and encoding, as types. Assumes nothing.
+use Prim.Native.Nat.{ℕ, _≤_}
+use mathlib.Core.List.{List}
+use mathlib.Core.Path.{_≡_}
+use lib.ListN.{length}
+use Rattle.rules.specs.Tables.{Bytes}
+use Rattle.dispatch.specs.declared.Rows.{Rows}
+use Rattle.dispatch.specs.declared.State.{State}
+use Rattle.dispatch.specs.Meaning.{Stored, entry}
+use Rattle.block.specs.Layout.{Long, imageOf, stateOn}
+use Rattle.block.specs.Tests.{decodedAs, decodedOf}
+
+-- nothing stands past the rows
+pub record Blank (rows : Rows) (i : ℕ) : Type 0 where
+  pub C-blank : entry (rows .c) i ≡ 0
+  pub D-blank : entry (rows .d) i ≡ 0
+  pub T-blank : entry (rows .t) i ≡ 0
+  pub U-blank : entry (rows .u) i ≡ 0
+  pub rank-blank : entry (rows .rank) i ≡ 0
+
+-- rows and a state that have an image: they meet document 01's conditions, and what means nothing is 0
+pub record Imaged (rows : Rows) (s : State) : Type 0 where
+  pub stored : Stored rows s
+  pub long : Long rows s
+  pub past : (i : ℕ) → rows .n ≤ i → Blank rows i
+
+pub record BlockPromises : Type 0 where
+  -- an image is 512 bytes
+  pub image-bytes : (rows : Rows) (s : State) → Imaged rows s → Bytes (imageOf rows s) × (length (imageOf rows s) ≡ 512)
+  -- decode of encode is the state
+  pub decode-encode : (rows : Rows) (s : State) → Imaged rows s → decodedOf (imageOf rows s) ≡ decodedAs rows s
+  -- only images are accepted
+  pub decode-only : (b : List ℕ) → Bytes b → (rows : Rows) (s : State) → decodedOf b ≡ decodedAs rows s → (b ≡ imageOf rows s) × Imaged rows s
+  -- what a call changes, written over the image of the state before, is the image of the state after
+  pub write-image : (rows : Rows) (s after : State) → Long rows s → Long rows after → stateOn (imageOf rows s) after ≡ imageOf rows after

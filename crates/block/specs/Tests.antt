@@ -1,0 +1,159 @@
+-- What decoding tests: one number of faults for each array, 0 where there is none. Assumes nothing.
+use Prim.Native.Nat.{ℕ, zero, suc, _+_, _*_, _-_, _/_, _%_, _^_}
+use mathlib.Core.Bool.{Bool, true, false, cond, _&&_}
+use mathlib.Core.List.{List}
+use lib.Bits.{bitOr, bitXor}
+use lib.Dec.{eqb, leb, ltb}
+use lib.ListN.{length, replicate}
+use Rattle.rules.specs.Tick.{bit}
+use Rattle.dispatch.specs.Meaning.{entry, wrapped}
+use Rattle.dispatch.specs.declared.Rows.{Rows}
+use Rattle.dispatch.specs.declared.State.{State}
+use Rattle.block.specs.declared.Decoded.{Decoded}
+use Rattle.block.specs.Words.{quad, word}
+use Rattle.block.specs.Layout.{rowsAt, stateAt}
+
+-- sets of positions
+
+-- the positions below n
+abbrev pub known : ℕ → ℕ
+known n = 65535 / 2 ^ (16 - n)
+
+-- the positions that are not in the set
+abbrev pub others : ℕ → ℕ
+others set = 65535 - set
+
+-- the last runner as a set: of rows, and of firm jobs, of which only the first can be it
+abbrev pub rowMark : ℕ → ℕ
+rowMark last = 2 ^ (last % 32) % 65536
+
+abbrev pub firmMark : ℕ → ℕ
+firmMark last = 2 ^ (last % 32) / 65536 % 2
+
+-- the faults of the first n, together
+unfoldable pub orOf : (ℕ → ℕ) → ℕ → ℕ
+orOf f zero = 0
+orOf f (suc n) = bitOr (orOf f n) (f n)
+
+-- the rows: C ≤ D ≤ T, U ≤ D − C, C ≥ 1 where there is a row and T = 0 where there is none; ticks run: at most C if the job is the last runner, else below it, 0 if closed
+
+unfoldable pub rowFault : Bool → Bool → Bool → ℕ → ℕ → ℕ → ℕ → ℕ → ℕ
+rowFault live o ran c d t u run = bitOr (bitOr (bitOr (bitOr (c - d) (d - t)) (u - (d - c))) (cond live (1 - c) t)) (run - cond o (c - cond ran 0 1) 0)
+
+abbrev pub rowFaultAt : List ℕ → ℕ → ℕ → ℕ → ℕ → ℕ
+rowFaultAt b live o ran i =
+    rowFault (bit live i) (bit o i) (bit ran i) (word b (16 + 2 * i)) (word b (48 + 2 * i)) (word b (80 + 2 * i)) (word b (112 + 2 * i)) (word b (144 + 2 * i))
+
+unfoldable pub rowsOk : List ℕ → ℕ → ℕ → ℕ → Bool
+rowsOk b live o ran = eqb (orOf (rowFaultAt b live o ran) 16) 0
+
+-- the ranks: below 32, those of the rows together the positions below n, 0 past them
+
+abbrev pub rankBit : List ℕ → ℕ → ℕ
+rankBit b i = 2 ^ (entry b (240 + i) % 32)
+
+unfoldable pub ranksOnce : List ℕ → ℕ → Bool
+ranksOnce b n = eqb (orOf (rankBit b) n) (known n)
+
+unfoldable pub ranksLow : List ℕ → Bool
+ranksLow b = ltb (orOf (λ i. entry b (240 + i)) 16) 32
+
+abbrev pub pastFault : List ℕ → ℕ → ℕ → ℕ
+pastFault b n i = cond (ltb i n) 0 (entry b (240 + i))
+
+unfoldable pub ranksBlank : List ℕ → ℕ → Bool
+ranksBlank b n = eqb (orOf (pastFault b n) 16) 0
+
+-- the stamps: 0 where a row is rested or not there, else less than T ticks ago
+
+abbrev pub stampFault : Bool → ℕ → ℕ → ℕ → ℕ
+stampFault quiet t clock stamp = cond quiet stamp (cond (ltb (wrapped clock stamp) t) 0 1)
+
+abbrev pub stampFaultAt : List ℕ → ℕ → ℕ → ℕ → ℕ
+stampFaultAt b quiet clock i = stampFault (bit quiet i) (word b (80 + 2 * i)) clock (quad b (176 + 4 * i))
+
+unfoldable pub stampsOk : List ℕ → ℕ → ℕ → Bool
+stampsOk b quiet clock = eqb (orOf (stampFaultAt b quiet clock) 16) 0
+
+-- the firm jobs: budget ≥ 1 where there is a job and 0 where there is none; ticks run: at most the budget if the job is the last runner, else below it
+
+abbrev pub firmFault : Bool → Bool → ℕ → ℕ → ℕ
+firmFault queued ran budget used = bitOr (cond queued (1 - budget) budget) (used - (budget - cond ran 0 1))
+
+abbrev pub firmFaultAt : List ℕ → ℕ → ℕ → ℕ → ℕ
+firmFaultAt b queued ran i = firmFault (bit queued i) (bit ran i) (word b (256 + 2 * i)) (word b (272 + 2 * i))
+
+unfoldable pub firmsOk : List ℕ → ℕ → ℕ → Bool
+firmsOk b queued ran = eqb (orOf (firmFaultAt b queued ran) 8) 0
+
+-- the tickets: one after the other from the first, 0 where there is no job
+
+abbrev pub ticketFaultAt : List ℕ → ℕ → ℕ → ℕ → ℕ
+ticketFaultAt b queued first i = bitXor (quad b (288 + 4 * i)) (cond (bit queued i) ((first + i) % 2 ^ 32) 0)
+
+unfoldable pub ticketsOk : List ℕ → ℕ → ℕ → Bool
+ticketsOk b queued first = eqb (orOf (ticketFaultAt b queued first) 8) 0
+
+-- the last runner, if a job, is open and has run; a firm one is the first queued
+unfoldable pub lastOk : List ℕ → ℕ → ℕ → ℕ → Bool
+lastOk b last o count =
+    cond (ltb last 16) (bit o last && ltb 0 (word b (144 + 2 * last)))
+    (cond (eqb last 16) (ltb 0 count && ltb 0 (word b 272)) (eqb last 17))
+
+-- the bytes kept free are 0
+unfoldable pub freeOk : List ℕ → Bool
+freeOk b = eqb (bitOr (orOf (λ i. entry b (320 + i)) 192) (entry b 3)) 0
+
+-- all of them, for a list of 512
+
+unfoldable pub tableTest : List ℕ → ℕ → Bool
+tableTest b n = ranksOnce b n && ranksLow b && ranksBlank b n
+
+unfoldable pub jobsTest : List ℕ → ℕ → ℕ → Bool
+jobsTest b live last = rowsOk b live (word b 12) (rowMark last) && leb (word b 12) live
+
+unfoldable pub timesTest : List ℕ → ℕ → Bool
+timesTest b live = stampsOk b (bitOr (word b 14) (others live)) (quad b 4) && leb (word b 14) live
+
+unfoldable pub queueTest : List ℕ → ℕ → ℕ → Bool
+queueTest b count last = firmsOk b (known count) (firmMark last) && ticketsOk b (known count) (wrapped (quad b 8) count)
+
+unfoldable pub restTest : List ℕ → ℕ → ℕ → Bool
+restTest b count last = lastOk b last (word b 12) count && freeOk b
+
+abbrev pub fieldsTest : List ℕ → ℕ → ℕ → ℕ → Bool
+fieldsTest b n count last = tableTest b n && jobsTest b (known n) last && timesTest b (known n) && queueTest b count last && restTest b count last
+
+unfoldable pub imageOk : List ℕ → Bool
+imageOk b = cond (ltb 16 (entry b 0)) false (cond (ltb 8 (entry b 1)) false (fieldsTest b (entry b 0) (entry b 1) (entry b 2)))
+
+-- decoding
+
+abbrev pub decodedAs : Rows → State → Decoded
+decodedAs rows s = record { ok = true; rows = rows; state = s }
+
+abbrev zeros : ℕ → List ℕ
+zeros n = replicate n 0
+
+-- what a refusal gives: every number 0
+abbrev pub refusedBlock : Decoded
+refusedBlock = record {
+  ok = false;
+  rows = record { n = 0; c = zeros 16; d = zeros 16; t = zeros 16; u = zeros 16; rank = zeros 16 };
+  state = record {
+    clock = 0;
+    next = 0;
+    «open» = 0;
+    rested = 0;
+    last = 0;
+    count = 0;
+    run = zeros 16;
+    stamp = zeros 16;
+    budget = zeros 8;
+    used = zeros 8;
+    ticket = zeros 8;
+  };
+}
+
+unfoldable pub decodedOf : List ℕ → Decoded
+decodedOf b = cond (eqb (length b) 512) (cond (imageOk b) (decodedAs (rowsAt b) (stateAt b)) refusedBlock) refusedBlock

@@ -1,0 +1,308 @@
+// Is a block the image of a state: each test looks at a whole array, with no early exit, and a fault is a number other than 0.
+ghost use mathlib.Core.Path.{_≡_};
+ghost use mathlib.Core.Bool.{cond};
+ghost use Prim.Native.Nat.{_-_, _%_, _^_, _≤_, _<_};
+ghost use lib.ListN.{length};
+ghost use Rattle.rules.specs.Tick.{bit};
+ghost use Rattle.dispatch.specs.Meaning.{wrapped};
+ghost use Rattle.block.specs.Tests.{known, others, rowMark, firmMark, rowFault, rowsOk, ranksOnce, ranksLow, ranksBlank, stampFault, stampsOk, firmFault, firmsOk, ticketsOk, lastOk, freeOk, tableTest, jobsTest, timesTest, queueTest, restTest, imageOk};
+use crate::words;
+
+pub fn is_image(b: &[u8]) -> bool
+    requires { ⌜ length (now b) ≡ 512 ⌝ }
+    ensures { λ r. ⌜ r ≡ imageOk (now (b .entry)) ⌝ }
+{
+    let n = words::size(b[0]);
+    if 16 < n {
+        return false;
+    }
+    let count = words::size(b[1]);
+    if 8 < count {
+        return false;
+    }
+    let last = words::size(b[2]);
+    let live = below(n);
+    let r1 = table_good(b, n);
+    let r2 = jobs_good(b, live, last);
+    let r3 = times_good(b, live);
+    let r4 = queue_good(b, count, last);
+    let r5 = rest_good(b, count, last);
+    r1 & r2 & r3 & r4 & r5
+}
+
+fn table_good(b: &[u8], n: usize) -> bool
+    requires { ⌜ (length (now b) ≡ 512) × (n ≤ 16) ⌝ }
+    ensures { λ r. ⌜ r ≡ tableTest (now (b .entry)) n ⌝ }
+{
+    ranks_once(b, n) & ranks_low(b) & ranks_blank(b, n)
+}
+
+fn jobs_good(b: &[u8], live: u16, last: usize) -> bool
+    requires { ⌜ length (now b) ≡ 512 ⌝ }
+    ensures { λ r. ⌜ r ≡ jobsTest (now (b .entry)) live last ⌝ }
+{
+    let open = words::get16(b, 12);
+    rows_good(b, live, open, row_mark(last)) & (open <= live)
+}
+
+fn times_good(b: &[u8], live: u16) -> bool
+    requires { ⌜ length (now b) ≡ 512 ⌝ }
+    ensures { λ r. ⌜ r ≡ timesTest (now (b .entry)) live ⌝ }
+{
+    let rested = words::get16(b, 14);
+    stamps_good(b, rested | !live, words::get32(b, 4)) & (rested <= live)
+}
+
+fn queue_good(b: &[u8], count: usize, last: usize) -> bool
+    requires { ⌜ (length (now b) ≡ 512) × (count ≤ 8) ⌝ }
+    ensures { λ r. ⌜ r ≡ queueTest (now (b .entry)) count last ⌝ }
+{
+    let queued = below(count);
+    firms_good(b, queued, firm_mark(last))
+        & tickets_good(b, queued, first_ticket(words::get32(b, 8), count))
+}
+
+fn rest_good(b: &[u8], count: usize, last: usize) -> bool
+    requires { ⌜ length (now b) ≡ 512 ⌝ }
+    ensures { λ r. ⌜ r ≡ restTest (now (b .entry)) count last ⌝ }
+{
+    last_good(b, last, words::get16(b, 12), count) & free_good(b)
+}
+
+// The set of the positions below n.
+fn below(n: usize) -> u16
+    requires { ⌜ n ≤ 16 ⌝ }
+    ensures { λ r. ⌜ r ≡ known n ⌝ }
+{
+    let k = 16 - n;
+    (65535u32 >> k) as u16
+}
+
+// The last runner as a set of rows, and as a set of firm jobs, of which only the first can be it.
+fn row_mark(last: usize) -> u16
+    ensures { λ r. ⌜ r ≡ rowMark last ⌝ }
+{
+    (mark(last) % 65536) as u16
+}
+
+fn firm_mark(last: usize) -> u16
+    ensures { λ r. ⌜ r ≡ firmMark last ⌝ }
+{
+    (mark(last) / 65536 % 2) as u16
+}
+
+fn mark(last: usize) -> u32
+    ensures { λ r. ⌜ r ≡ 2 ^ (last % 32) ⌝ }
+{
+    let k = last % 32;
+    1u32 << k
+}
+
+fn bit(set: u16, i: usize) -> bool
+    requires { ⌜ i < 16 ⌝ }
+    ensures { λ r. ⌜ r ≡ bit set i ⌝ }
+{
+    (set >> i) % 2 == 1
+}
+
+// max(0, a − b)
+fn over(a: u16, b: u16) -> u16
+    ensures { λ r. ⌜ r ≡ a - b ⌝ }
+{
+    if b < a { a - b } else { 0 }
+}
+
+fn pick(b: bool, x: u16, y: u16) -> u16
+    ensures { λ r. ⌜ r ≡ cond b x y ⌝ }
+{
+    if b { x } else { y }
+}
+
+fn row_fault(live: bool, open: bool, ran: bool, c: u16, d: u16, t: u16, u: u16, run: u16) -> u16
+    ensures { λ r. ⌜ r ≡ rowFault live «open» ran c d t u run ⌝ }
+{
+    over(c, d)
+        | over(d, t)
+        | over(u, over(d, c))
+        | pick(live, over(1, c), t)
+        | over(run, pick(open, over(c, pick(ran, 0, 1)), 0))
+}
+
+fn rows_good(b: &[u8], live: u16, open: u16, ran: u16) -> bool
+    requires { ⌜ length (now b) ≡ 512 ⌝ }
+    ensures { λ r. ⌜ r ≡ rowsOk (now (b .entry)) live «open» ran ⌝ }
+{
+    let mut x: u16 = 0;
+    let mut i: usize = 0;
+    while i < 16 {
+        x = x
+            | row_fault(
+                bit(live, i),
+                bit(open, i),
+                bit(ran, i),
+                words::get16(b, 16 + 2 * i),
+                words::get16(b, 48 + 2 * i),
+                words::get16(b, 80 + 2 * i),
+                words::get16(b, 112 + 2 * i),
+                words::get16(b, 144 + 2 * i),
+            );
+        i += 1;
+    }
+    x == 0
+}
+
+// The ranks of the rows below n, as a set, are the positions below n.
+fn ranks_once(b: &[u8], n: usize) -> bool
+    requires { ⌜ (length (now b) ≡ 512) × (n ≤ 16) ⌝ }
+    ensures { λ r. ⌜ r ≡ ranksOnce (now (b .entry)) n ⌝ }
+{
+    let mut x: u32 = 0;
+    let mut i: usize = 0;
+    while i < n {
+        x = x | mark(words::size(b[240 + i]));
+        i += 1;
+    }
+    x == below(n) as u32
+}
+
+fn ranks_low(b: &[u8]) -> bool
+    requires { ⌜ length (now b) ≡ 512 ⌝ }
+    ensures { λ r. ⌜ r ≡ ranksLow (now (b .entry)) ⌝ }
+{
+    let mut x: u8 = 0;
+    let mut i: usize = 0;
+    while i < 16 {
+        x = x | b[240 + i];
+        i += 1;
+    }
+    x < 32
+}
+
+fn ranks_blank(b: &[u8], n: usize) -> bool
+    requires { ⌜ (length (now b) ≡ 512) × (n ≤ 16) ⌝ }
+    ensures { λ r. ⌜ r ≡ ranksBlank (now (b .entry)) n ⌝ }
+{
+    let mut x: u8 = 0;
+    let mut i = n;
+    while i < 16 {
+        x = x | b[240 + i];
+        i += 1;
+    }
+    x == 0
+}
+
+fn pick32(b: bool, x: u32, y: u32) -> u32
+    ensures { λ r. ⌜ r ≡ cond b x y ⌝ }
+{
+    if b { x } else { y }
+}
+
+fn age(clock: u32, stamp: u32) -> u32
+    ensures { λ r. ⌜ r ≡ wrapped clock stamp ⌝ }
+{
+    std::num::wrapping_sub_u32(clock, stamp)
+}
+
+fn stamp_fault(quiet: bool, t: u16, clock: u32, stamp: u32) -> u32
+    ensures { λ r. ⌜ r ≡ stampFault quiet t clock stamp ⌝ }
+{
+    pick32(
+        quiet,
+        stamp,
+        pick32(age(clock, stamp) < words::wider(t), 0, 1),
+    )
+}
+
+fn stamps_good(b: &[u8], quiet: u16, clock: u32) -> bool
+    requires { ⌜ length (now b) ≡ 512 ⌝ }
+    ensures { λ r. ⌜ r ≡ stampsOk (now (b .entry)) quiet clock ⌝ }
+{
+    let mut x: u32 = 0;
+    let mut i: usize = 0;
+    while i < 16 {
+        x = x
+            | stamp_fault(
+                bit(quiet, i),
+                words::get16(b, 80 + 2 * i),
+                clock,
+                words::get32(b, 176 + 4 * i),
+            );
+        i += 1;
+    }
+    x == 0
+}
+
+fn firm_fault(queued: bool, ran: bool, budget: u16, used: u16) -> u16
+    ensures { λ r. ⌜ r ≡ firmFault queued ran budget used ⌝ }
+{
+    pick(queued, over(1, budget), budget) | over(used, over(budget, pick(ran, 0, 1)))
+}
+
+fn firms_good(b: &[u8], queued: u16, ran: u16) -> bool
+    requires { ⌜ length (now b) ≡ 512 ⌝ }
+    ensures { λ r. ⌜ r ≡ firmsOk (now (b .entry)) queued ran ⌝ }
+{
+    let mut x: u16 = 0;
+    let mut i: usize = 0;
+    while i < 8 {
+        x = x
+            | firm_fault(
+                bit(queued, i),
+                bit(ran, i),
+                words::get16(b, 256 + 2 * i),
+                words::get16(b, 272 + 2 * i),
+            );
+        i += 1;
+    }
+    x == 0
+}
+
+fn first_ticket(next: u32, count: usize) -> u32
+    requires { ⌜ count ≤ 8 ⌝ }
+    ensures { λ r. ⌜ r ≡ wrapped next count ⌝ }
+{
+    age(next, count as u32)
+}
+
+fn tickets_good(b: &[u8], queued: u16, first: u32) -> bool
+    requires { ⌜ length (now b) ≡ 512 ⌝ }
+    ensures { λ r. ⌜ r ≡ ticketsOk (now (b .entry)) queued first ⌝ }
+{
+    let mut x: u32 = 0;
+    let mut k = first;
+    let mut i: usize = 0;
+    while i < 8 {
+        x = x | (words::get32(b, 288 + 4 * i) ^ pick32(bit(queued, i), k, 0));
+        k = std::num::wrapping_add_u32(k, 1);
+        i += 1;
+    }
+    x == 0
+}
+
+// The last runner, if a job, is open and has run.
+fn last_good(b: &[u8], last: usize, open: u16, count: usize) -> bool
+    requires { ⌜ length (now b) ≡ 512 ⌝ }
+    ensures { λ r. ⌜ r ≡ lastOk (now (b .entry)) last «open» count ⌝ }
+{
+    if last < 16 {
+        return bit(open, last) & (0 < words::get16(b, 144 + 2 * last));
+    }
+    if last == 16 {
+        return (0 < count) & (0 < words::get16(b, 272));
+    }
+    last == 17
+}
+
+// The bytes kept free are 0.
+fn free_good(b: &[u8]) -> bool
+    requires { ⌜ length (now b) ≡ 512 ⌝ }
+    ensures { λ r. ⌜ r ≡ freeOk (now (b .entry)) ⌝ }
+{
+    let mut x: u8 = 0;
+    let mut i: usize = 0;
+    while i < 192 {
+        x = x | b[320 + i];
+        i += 1;
+    }
+    (x | b[3]) == 0
+}

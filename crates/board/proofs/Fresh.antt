@@ -1,0 +1,58 @@
+-- The block that planning writes holds the fresh station of the table. Assumes nothing.
+use Prim.Native.Nat.{ℕ, _≤_}
+use mathlib.Core.List.{List, map}
+use mathlib.Core.Path.{_≡_, refl, ap}
+use native.Mathlib.Omega.{arith}
+use lib.ListN.{length, length-map}
+use Rattle.rules.specs.Bound.{PlannedRow, plan, planned, promotion}
+use Rattle.rules.specs.File.{read, read-as}
+use Rattle.rules.specs.Lists.{All}
+use Rattle.rules.specs.Station.{freshStation}
+use Rattle.rules.specs.Tables.{Bytes, RowNarrow}
+use Rattle.rules.proofs.Files.{read-scanned}
+use Rattle.rules.proofs.Results.{table-promises}
+use Rattle.rules.proofs.Scan.{scan-whole}
+use Rattle.dispatch.specs.Planned.{rowsFor}
+use Rattle.dispatch.specs.Steps.{freshIn}
+use Rattle.dispatch.proofs.PlannedRows.{length-fill, planned-fresh}
+use Rattle.block.specs.Layout.{Long, imageOf}
+use Rattle.board.proofs.Held.{Held, long-imaged}
+
+module _ (file : List ℕ) (bytes : Bytes file) (ps : List PlannedRow) (is-read : read file ≡ read-as ps) where
+  -- the table that was read passes 6 to 10 with this plan, has at most 16 rows, and its numbers have the widths of the file
+  planned-narrow : (plan (map (λ p. p .row) ps) ≡ planned ps) × (length ps ≤ 16) × All RowNarrow (map (λ p. p .row) ps)
+  planned-narrow =
+      let (rs, whole-is, plan-is) = read-scanned file ps is-read in
+      let x = table-promises .planned-iff rs ps .0 plan-is in
+      let file-is = scan-whole 16 0 file bytes rs whole-is in
+      (rw (x .rows-are) plan-is, omega (arith, length-map ps (λ p. p .row), ap {B = ℕ} length (x .rows-are), file-is .few), rw (x .rows-are) (file-is .narrow))
+
+  pub planned-rows : plan (map (λ p. p .row) ps) ≡ planned ps
+  planned-rows = planned-narrow .0
+
+  long : Long (rowsFor ps) (freshIn (rowsFor ps .n))
+  unfolding freshIn
+  long = record {
+    c-long = length-fill 16 (map (λ r. r .C) (map (λ p. p .row) ps));
+    d-long = length-fill 16 (map (λ r. r .D) (map (λ p. p .row) ps));
+    t-long = length-fill 16 (map (λ r. r .T) (map (λ p. p .row) ps));
+    u-long = length-fill 16 (map (λ p. promotion (p .row) (p .R)) ps);
+    rank-long = length-fill 16 (map (λ r. r .rank) (map (λ p. p .row) ps));
+    run-long = refl;
+    stamp-long = refl;
+    budget-long = refl;
+    used-long = refl;
+    ticket-long = refl;
+  }
+
+  pub fresh-held : Held (imageOf (rowsFor ps) (freshIn (rowsFor ps .n))) (freshStation ps)
+  fresh-held =
+      let (plan-is, few, narrow) = planned-narrow in
+      let (station-is, stored) = planned-fresh ps few plan-is narrow in
+      record {
+        rows = rowsFor ps;
+        state = freshIn (rowsFor ps .n);
+        imaged = long-imaged (rowsFor ps) (freshIn (rowsFor ps .n)) long stored;
+        block-is = refl;
+        station-is = station-is;
+      }

@@ -1,0 +1,146 @@
+-- A block that is the image of a state, and the station that the state means: each call on the one is the call on the other. Assumes nothing.
+use Prim.Native.Nat.{ℕ}
+use mathlib.Core.Bool.{Bool, true, false, cond}
+use mathlib.Core.List.{List, [], _∷_}
+use mathlib.Core.Path.{_≡_, refl, sym, ap, ap₂, subst}
+use borrow.Author.Tests.{eq-eqb}
+use lib.ListN.{length}
+use Rattle.rules.specs.Calls.{AllShort, Call, Short, after, afterOffer, afterTick, doneFlag, offer-call, otherFlag, replies, softFlag, step, tick-call}
+use Rattle.rules.specs.Offer.{Offered, accepted, no-offer, offer}
+use Rattle.rules.specs.Refusals.{number, refusal, unknown-flag}
+use Rattle.rules.specs.Station.{Station}
+use Rattle.rules.specs.Tick.{Ticked, no-tick, tick, ticked}
+use Rattle.dispatch.specs.declared.OfferMade.{OfferMade}
+use Rattle.dispatch.specs.declared.Rows.{Rows}
+use Rattle.dispatch.specs.declared.State.{State}
+use Rattle.dispatch.specs.declared.Ticked as memory
+use Rattle.dispatch.specs.Meaning.{Stored, stationOf}
+use Rattle.dispatch.specs.OfferAnswers.{OfferIs}
+use Rattle.dispatch.specs.OfferSteps.{offerMade}
+use Rattle.dispatch.specs.Refines.{TickRefines}
+use Rattle.dispatch.specs.Steps.{tickIn}
+use Rattle.dispatch.proofs.OfferRefine.{offer-refines}
+use Rattle.dispatch.proofs.Refine.{tick-refines}
+use Rattle.block.specs.Image.{Imaged}
+use Rattle.block.specs.Layout.{Long, imageOf, writtenOn}
+use Rattle.block.proofs.Results.{block-promises}
+use Rattle.block.specs.Tests.{decodedAs}
+use Rattle.board.specs.declared.OfferAnswer.{OfferAnswer}
+use Rattle.board.specs.declared.TickAnswer.{TickAnswer}
+use Rattle.board.specs.Blocks.{Out, giving, madeOn, offerBlock, offerDecoded, tickBlock, tickDecoded, tickedOn}
+use Rattle.board.specs.Numbers.{refusedTick}
+use Rattle.board.specs.Promises.{blockAfter, blockOn, blockReplies, offerReply, replyOn, tickReply}
+use Rattle.board.proofs.Named.{RefusedSo, answer-back, named-back, tick-named}
+
+pub record Held (b : List ℕ) (st : Station) : Type 0 where
+  pub rows : Rows
+  pub state : State
+  pub imaged : Imaged rows state
+  pub block-is : imageOf rows state ≡ b
+  pub station-is : stationOf rows state ≡ st
+
+-- what may be stored, in arrays of the lengths of their types, has an image
+pub long-imaged : (rows : Rows) (s : State) → Long rows s → Stored rows s → Imaged rows s
+long-imaged rows s L S = record {
+  stored = S;
+  long = L;
+  past = λ i h.
+      let (C, D, T, U, rank) = S .kept .table .past i h in
+      record { C-blank = C; D-blank = D; T-blank = T; U-blank = U; rank-blank = rank };
+}
+
+-- the table's arrays stay, and the state's have the lengths of what may be stored
+stays-imaged : (rows : Rows) (s s′ : State) → Imaged rows s → Stored rows s′ → Imaged rows s′
+stays-imaged rows s s′ I S =
+    let L = I .long in
+    long-imaged rows s′
+    (record {
+      c-long = L .c-long;
+      d-long = L .d-long;
+      t-long = L .t-long;
+      u-long = L .u-long;
+      rank-long = L .rank-long;
+      run-long = S .kept .jobs .runs;
+      stamp-long = S .kept .times .stamps;
+      budget-long = S .kept .queue .budgets;
+      used-long = S .kept .queue .useds;
+      ticket-long = S .kept .queue .tickets;
+    })
+    S
+
+written-over : (rows : Rows) (s s′ : State) → Imaged rows s → Imaged rows s′ → writtenOn (imageOf rows s) s′ ≡ imageOf rows s′
+unfolding writtenOn
+written-over rows s s′ I J =
+    rw (eq-eqb (length (imageOf rows s)) 512 (block-promises .image-bytes rows s I .1)) (block-promises .write-image rows s s′ (I .long) (J .long))
+
+module _ (rows : Rows) (s : State) (I : Imaged rows s) where
+  abbrev b : List ℕ
+  b = imageOf rows s
+
+  abbrev st : Station
+  st = stationOf rows s
+
+  same : Held b st
+  same = record { rows = rows; state = s; imaged = I; block-is = refl; station-is = refl }
+
+  -- the state after a step, written back
+  stepped-held : (s′ : State) (st′ : Station) → stationOf rows s′ ≡ st′ → Stored rows s′ → Held (writtenOn b s′) st′
+  stepped-held s′ st′ e S′ =
+      let J = stays-imaged rows s s′ I S′ in
+      record { rows = rows; state = s′; imaged = J; block-is = sym (written-over rows s s′ I J); station-is = e }
+
+  ticked-held : (T : Ticked) (r : memory.Ticked) → TickRefines rows s T r → RefusedSo T
+      → (tickReply (tickedOn r b .answer) ≡ afterTick st T .reply) × Held (tickedOn r b .block) (afterTick st T .station)
+  ticked-held (ticked st′ x) r (v, e, S′) n = rw v (answer-back x, stepped-held (r .state) st′ e S′)
+  ticked-held (no-tick y) r (v, e) n = rw v (n (r .state) b .0, subst (λ l. Held l st) (sym (n (r .state) b .1)) same)
+
+  tick-on : (set flags : ℕ) → tickBlock b set flags ≡ cond (otherFlag flags) (giving (refusedTick (number unknown-flag) 0) b) (tickDecoded (decodedAs rows s) b set flags)
+  unfolding tickBlock
+  tick-on set flags = ap (λ x. cond (otherFlag flags) (giving (refusedTick (number unknown-flag) 0) b) (tickDecoded x b set flags)) (block-promises .decode-encode rows s I)
+
+  tick-held : (set flags : ℕ) → Short (tick-call set flags)
+      → (replyOn b (tick-call set flags) ≡ step st (tick-call set flags) .reply) × Held (blockOn b (tick-call set flags)) (step st (tick-call set flags) .station)
+  tick-held set flags (small, h) =
+      subst (λ (o : Out TickAnswer). (tickReply (o .answer) ≡ step st (tick-call set flags) .reply) × Held (o .block) (step st (tick-call set flags) .station)) (sym (tick-on set flags)) (go (otherFlag flags))
+    where
+      go : (f : Bool)
+          → (tickReply (cond f (giving (refusedTick (number unknown-flag) 0) b) (tickDecoded (decodedAs rows s) b set flags) .answer)
+          ≡ afterTick st (cond f (no-tick (refusal unknown-flag)) (tick st set (doneFlag flags) (softFlag flags))) .reply)
+          × Held (cond f (giving (refusedTick (number unknown-flag) 0) b) (tickDecoded (decodedAs rows s) b set flags) .block)
+          (afterTick st (cond f (no-tick (refusal unknown-flag)) (tick st set (doneFlag flags) (softFlag flags))) .station)
+      go true = (refl, same)
+      go false =
+          ticked-held (tick st set (doneFlag flags) (softFlag flags)) (tickIn rows s set (doneFlag flags) (softFlag flags))
+          (tick-refines rows s (I .stored) set small (doneFlag flags) (softFlag flags)) (tick-named st set (doneFlag flags) (softFlag flags))
+
+  made-held : (O : Offered) (r : OfferMade) → OfferIs rows s r O
+      → (offerReply (madeOn r b .answer) ≡ afterOffer st O .reply) × Held (madeOn r b .block) (afterOffer st O .station)
+  made-held (accepted st′ t) r (v, e, S′) = rw v (refl, stepped-held (r .state) st′ e S′)
+  made-held (no-offer why) r (v, e) = rw (v, named-back why .0, named-back why .1) (refl, same)
+
+  offer-on : (B d : ℕ) → offerBlock b B d ≡ madeOn (offerMade rows s B d) b
+  unfolding offerBlock
+  offer-on B d = ap (λ x. offerDecoded x b B d) (block-promises .decode-encode rows s I)
+
+  offer-held : (B d : ℕ) → Short (offer-call B d)
+      → (replyOn b (offer-call B d) ≡ step st (offer-call B d) .reply) × Held (blockOn b (offer-call B d)) (step st (offer-call B d) .station)
+  offer-held B d (small, h) =
+      subst (λ (o : Out OfferAnswer). (offerReply (o .answer) ≡ step st (offer-call B d) .reply) × Held (o .block) (step st (offer-call B d) .station)) (sym (offer-on B d))
+      (made-held (offer st B d) (offerMade rows s B d) (offer-refines rows s B d (I .stored) small h))
+
+  call-held : (c : Call) → Short c → (replyOn b c ≡ step st c .reply) × Held (blockOn b c) (step st c .station)
+  call-held (tick-call set flags) h = tick-held set flags h
+  call-held (offer-call B d) h = offer-held B d h
+
+pub step-held : (b : List ℕ) (st : Station) (c : Call) → Short c → Held b st → (replyOn b c ≡ step st c .reply) × Held (blockOn b c) (step st c .station)
+step-held b st c h H = rw (← (H .block-is), ← (H .station-is)) (call-held (H .rows) (H .state) (H .imaged) c h)
+
+pub replies-held : (cs : List Call) (b : List ℕ) (st : Station) → AllShort cs → Held b st → blockReplies b cs ≡ replies st cs
+replies-held [] b st h H = refl
+replies-held (c ∷ cs) b st (h, hs) H =
+    let (r, H′) = step-held b st c h H in
+    ap₂ (λ x xs. x ∷ xs) r (replies-held cs (blockOn b c) (step st c .station) hs H′)
+
+pub after-held : (cs : List Call) (b : List ℕ) (st : Station) → AllShort cs → Held b st → Held (blockAfter b cs) (after st cs)
+after-held [] b st h H = H
+after-held (c ∷ cs) b st (h, hs) H = after-held cs (blockOn b c) (step st c .station) hs (step-held b st c h H .1)

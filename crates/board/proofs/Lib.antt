@@ -1,0 +1,8 @@
+pub mod Low
+pub mod Ways
+pub mod Named
+pub mod Held
+pub mod Fresh
+pub mod Refusals
+pub mod Shown
+pub mod Results

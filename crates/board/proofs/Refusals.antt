@@ -1,0 +1,117 @@
+-- What a refusal leaves, and that a block that holds a state is never refused as none. Assumes nothing.
+use Prim.Native.Nat.{ℕ, _+_}
+use mathlib.Core.Bool.{Bool, true, false, cond}
+use mathlib.Core.List.{List}
+use mathlib.Core.Path.{_≡_, refl}
+use native.Mathlib.Omega.{arith}
+use lib.Dec.{eqb, leb, ltb}
+use lib.ListN.{length}
+use Rattle.rules.specs.Calls.{doneFlag, otherFlag, softFlag}
+use Rattle.rules.specs.File.{Reading, read, read-as, unread}
+use Rattle.rules.specs.Refusals.{not-image, number, unknown-flag}
+use Rattle.rules.specs.Station.{Station}
+use Rattle.dispatch.specs.declared.Offered.{Offered}
+use Rattle.dispatch.specs.declared.Offered.the-variants.{Refused, Ticket}
+use Rattle.dispatch.specs.declared.OfferMade.{OfferMade}
+use Rattle.dispatch.specs.declared.Rows.{Rows}
+use Rattle.dispatch.specs.declared.State.{State}
+use Rattle.dispatch.specs.declared.Ticked.{Ticked}
+use Rattle.dispatch.specs.declared.Verdict.{Verdict}
+use Rattle.dispatch.specs.declared.Verdict.the-variants.{NoneRan, NotReady, Stepped, Unknown}
+use Rattle.dispatch.specs.OfferSteps.{claimsOf, offerMade, refusedBy, ticketFor, unrunOf}
+use Rattle.dispatch.specs.Steps.{tickIn}
+use Rattle.block.specs.Tests.{decodedAs, decodedOf}
+use Rattle.block.proofs.Results.{block-promises}
+use Rattle.board.specs.Blocks.{giving, madeOn, offerBlock, offeredOn, planBlock, planOf, tickBlock, tickDecoded, tickedOn, verdictOn}
+use Rattle.board.specs.Numbers.{refusedOffer, refusedPlan, refusedTick}
+use Rattle.board.specs.Promises.{Untouched}
+use Rattle.board.proofs.Held.{Held}
+
+-- a refusal leaves the block as it was
+
+plan-refused : (file b : List ℕ) → (planBlock file b .answer .refusal ≡ 0 → ⊥) → planBlock file b .block ≡ b
+unfolding planBlock
+plan-refused file b = go (eqb (length b) 512) (read file)
+  where
+    go : (f : Bool) (R : Reading) → (cond f (planOf R b) (giving (refusedPlan (number not-image) 0 0) b) .answer .refusal ≡ 0 → ⊥)
+        → cond f (planOf R b) (giving (refusedPlan (number not-image) 0 0) b) .block ≡ b
+    go true (read-as ps) h = absurd (h refl)
+    go true (unread why from size) h = refl
+    go false R h = refl
+
+verdict-refused : (v : Verdict) (s : State) (b : List ℕ) → (verdictOn v s b .answer .refusal ≡ 0 → ⊥) → verdictOn v s b .block ≡ b
+verdict-refused (Stepped a) s b h = absurd (h refl)
+verdict-refused (Unknown k) s b h = refl
+verdict-refused NoneRan s b h = refl
+verdict-refused (NotReady k) s b h = refl
+
+module _ (b : List ℕ) (set flags : ℕ) where
+  abbrev stepped : Ticked
+  stepped = tickIn (decodedOf b .rows) (decodedOf b .state) set (doneFlag flags) (softFlag flags)
+
+  tick-refused : (tickBlock b set flags .answer .refusal ≡ 0 → ⊥) → tickBlock b set flags .block ≡ b
+  unfolding tickBlock
+  tick-refused = go (otherFlag flags) (decodedOf b .ok)
+    where
+      go : (f ok : Bool)
+          → (cond f (giving (refusedTick (number unknown-flag) 0) b) (cond ok (tickedOn stepped b) (giving (refusedTick (number not-image) 0) b)) .answer .refusal ≡ 0 → ⊥)
+          → cond f (giving (refusedTick (number unknown-flag) 0) b) (cond ok (tickedOn stepped b) (giving (refusedTick (number not-image) 0) b)) .block ≡ b
+      go true ok h = refl
+      go false true h = verdict-refused (stepped .verdict) (stepped .state) b h
+      go false false h = refl
+
+offered-refused : (o : Offered) (s : State) (b : List ℕ) → (offeredOn o s b .answer .refusal ≡ 0 → ⊥) → offeredOn o s b .block ≡ b
+offered-refused (Ticket t) s b h = absurd (h refl)
+offered-refused (Refused n) s b h = refl
+
+module _ (b : List ℕ) (B d : ℕ) where
+  abbrev made : OfferMade
+  made = offerMade (decodedOf b .rows) (decodedOf b .state) B d
+
+  offer-refused : (offerBlock b B d .answer .refusal ≡ 0 → ⊥) → offerBlock b B d .block ≡ b
+  unfolding offerBlock
+  offer-refused = go (decodedOf b .ok)
+    where
+      go : (ok : Bool) → (cond ok (madeOn made b) (giving (refusedOffer (number not-image)) b) .answer .refusal ≡ 0 → ⊥)
+          → cond ok (madeOn made b) (giving (refusedOffer (number not-image)) b) .block ≡ b
+      go true h = offered-refused (made .offered) (made .state) b h
+      go false h = refl
+
+pub untouched : Untouched
+untouched = record { plan-refused = plan-refused; tick-refused = tick-refused; offer-refused = offer-refused }
+
+-- a block that holds a state is not refused with 11
+
+verdict-not-11 : (v : Verdict) (s : State) (b : List ℕ) → verdictOn v s b .answer .refusal ≡ 11 → ⊥
+verdict-not-11 (Stepped a) s b e = omega arith
+verdict-not-11 (Unknown k) s b e = omega arith
+verdict-not-11 NoneRan s b e = omega arith
+verdict-not-11 (NotReady k) s b e = omega arith
+
+offered-not-11 : (rows : Rows) (s : State) (B d : ℕ) (b : List ℕ) → madeOn (offerMade rows s B d) b .answer .refusal ≡ 11 → ⊥
+unfolding offerMade
+offered-not-11 rows s B d b = go (eqb B 0) (ltb d B) (leb 8 (s .count)) (leb (claimsOf rows s d + (B + unrunOf s)) d)
+  where
+    go : (x y z w : Bool)
+        → madeOn (cond x (refusedBy 15 s) (cond y (refusedBy 16 s) (cond z (refusedBy 17 s) (cond w (ticketFor s B) (refusedBy 18 s))))) b .answer .refusal ≡ 11 → ⊥
+    go true y z w e = omega arith
+    go false true z w e = omega arith
+    go false false true w e = omega arith
+    go false false false true e = omega arith
+    go false false false false e = omega arith
+
+module _ {b : List ℕ} {st : Station} (H : Held b st) where
+  decoded : decodedOf b ≡ decodedAs (H .rows) (H .state)
+  decoded = rw (← (H .block-is)) (block-promises .decode-encode (H .rows) (H .state) (H .imaged))
+
+  pub tick-not-11 : (set flags : ℕ) → tickBlock b set flags .answer .refusal ≡ 11 → ⊥
+  unfolding tickBlock
+  tick-not-11 set flags = rw decoded (go (otherFlag flags))
+    where
+      go : (f : Bool) → cond f (giving (refusedTick (number unknown-flag) 0) b) (tickDecoded (decodedAs (H .rows) (H .state)) b set flags) .answer .refusal ≡ 11 → ⊥
+      go true e = omega arith
+      go false e = let r = tickIn (H .rows) (H .state) set (doneFlag flags) (softFlag flags) in verdict-not-11 (r .verdict) (r .state) b e
+
+  pub offer-not-11 : (B d : ℕ) → offerBlock b B d .answer .refusal ≡ 11 → ⊥
+  unfolding offerBlock
+  offer-not-11 B d = rw decoded (offered-not-11 (H .rows) (H .state) B d b)

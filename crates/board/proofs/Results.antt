@@ -1,0 +1,147 @@
+-- The promises over blocks: the block that planning left holds the fresh station, and so each promise of the rules is one of the answers. Assumes nothing.
+use Prim.Native.Nat.{ℕ, _%_, _^_}
+use mathlib.Core.Bool.{Bool, true, false, cond}
+use mathlib.Core.List.{List, map}
+use mathlib.Core.Option.{some}
+use mathlib.Core.Path.{_≡_, refl, sym, _∙_, subst}
+use native.Mathlib.Omega.{arith}
+use lib.Dec.{eqb}
+use borrow.Author.Tests.{eqb-false}
+use lib.ListN.{length}
+use Rattle.rules.specs.Bound.{PlannedRow, planned}
+use Rattle.rules.specs.Calls.{AllShort, Call, Short, acceptances, after, afterOffer, afterTick, answered, doneFlag, offer-call, replies, softFlag, step, tick-call, tickCall, ticks, took}
+use Rattle.rules.specs.File.{Reading, read, read-as, unread}
+use Rattle.rules.specs.Offer.{Offered, accepted, no-offer, offer}
+use Rattle.rules.specs.Promise.{Demand3, HardPromise, OnOffered, OnTicked, TrueTime, UploadPromise}
+use Rattle.rules.specs.Refusals.{not-image, number}
+use Rattle.rules.specs.Rows.{Row}
+use Rattle.rules.specs.Station.{Station, freshStation}
+use Rattle.rules.specs.Tick.{Answer, Ticked, closedAs, done, no-tick, ticked}
+use Rattle.rules.proofs.Calls.{on-call}
+use Rattle.rules.proofs.Results.{demand-3, done-is-told, in-true-time}
+use Rattle.dispatch.specs.Meaning.{stationOf}
+use Rattle.dispatch.specs.Planned.{rowsFor}
+use Rattle.dispatch.specs.Steps.{freshIn}
+use Rattle.block.specs.Layout.{imageOf}
+use Rattle.block.specs.Tests.{decodedAs, decodedOf}
+use Rattle.block.proofs.Results.{block-promises}
+use Rattle.board.specs.Blocks.{giving, planBlock, planOf}
+use Rattle.board.specs.Numbers.{refusedPlan}
+use Rattle.board.specs.Promises.{AnyBlock, HardOnBlock, OnBlocks, OneResults, Promises, UploadOnBlock, blockAfter, blockOn, blockReplies, replyOn}
+use Rattle.board.proofs.Fresh.{fresh-held, planned-rows}
+use Rattle.board.proofs.Held.{Held, after-held, replies-held, step-held}
+use Rattle.board.proofs.Named.{named-back}
+use Rattle.board.proofs.Refusals.{offer-not-11, tick-not-11}
+
+-- one result
+
+pub one-result : {A : Type 0} {f x y : A} → x ≡ f → y ≡ f → x ≡ y
+one-result p q = p ∙ sym q
+
+pub one-results : OneResults
+one-results = record {
+  of-plan = λ file b r r′ e e′ p q. (one-result (p .0) (q .0), one-result (p .1) (q .1));
+  of-tick = λ b set flags r r′ e e′ p q. (one-result (p .0) (q .0), one-result (p .1) (q .1));
+  of-offer = λ b B d r r′ e e′ p q. (one-result (p .0) (q .0), one-result (p .1) (q .1));
+}
+
+-- what is said of an accepted call, by its reply
+
+on-answer : (P : Station → Answer → Type 0) (st : Station) (T : Ticked) (x : Answer) → OnTicked P T → afterTick st T .reply ≡ answered x → P (afterTick st T .station) x
+on-answer P st (ticked st′ a) x p e = let same : a ≡ x = cc in subst (P st′) same p
+on-answer P st (no-tick y) x p e = let z : _≡_ {A = ℕ} 0 1 = cc in absurd (omega arith)
+
+on-ticket : (P : Station → ℕ → Type 0) (st : Station) (O : Offered) (t : ℕ) → OnOffered P O → afterOffer st O .reply ≡ took t → P (afterOffer st O .station) t
+on-ticket P st (accepted st′ u) t p e = let same : u ≡ t = cc in subst (P st′) same p
+on-ticket P st (no-offer why) t p e = let z : _≡_ {A = ℕ} 0 1 = cc in absurd (omega arith)
+
+module _ (b : List ℕ) (st : Station) (H : Held b st) where
+  answers : (later : List Call) → AllShort later → replies st later ≡ blockReplies b later
+  answers later h = sym (replies-held later b st h H)
+
+  hard-on-block : (k : ℕ) (r : Row) (x : Answer) → HardPromise k r st x → HardOnBlock k r b x
+  hard-on-block k r x p = record {
+    in-time = λ later h. rw (answers later h) at (p .in-time later);
+    never-more = λ later h. rw (answers later h) at (p .never-more later);
+  }
+
+  upload-on-block : (B d t : ℕ) → UploadPromise B d st t → UploadOnBlock B d b t
+  upload-on-block B d t p = record {
+    in-time = λ later h. rw (answers later h) at (p .in-time later);
+    never-more = λ later h. rw (answers later h) at (p .never-more later);
+  }
+
+module _ (ps : List PlannedRow) (b : List ℕ) (D : Demand3 (map (λ p. p .row) ps) (freshStation ps)) (T : TrueTime (freshStation ps)) (H : Held b (freshStation ps)) where
+  module _ (before : List Call) (short : AllShort before) where
+    -- the station when the calls have been made
+    abbrev st : Station
+    st = after (freshStation ps) before
+
+    held : Held (blockAfter b before) st
+    held = after-held before b (freshStation ps) short H
+
+    before-are : replies (freshStation ps) before ≡ blockReplies b before
+    before-are = answers b (freshStation ps) H before short
+
+    -- what the rules say of an accepted tick or offer
+    of-tick : (P : Station → Answer → Type 0) (set flags : ℕ) (x : Answer) → Short (tick-call set flags) → OnTicked P (tickCall st set flags)
+        → replyOn (blockAfter b before) (tick-call set flags) ≡ answered x → P (step st (tick-call set flags) .station) x
+    of-tick P set flags x h p e =
+        on-answer P st (tickCall st set flags) x p (sym (step-held (blockAfter b before) st (tick-call set flags) h held .0) ∙ e)
+
+    of-offer : (P : Station → ℕ → Type 0) (B d t : ℕ) → Short (offer-call B d) → OnOffered P (offer st B d)
+        → replyOn (blockAfter b before) (offer-call B d) ≡ took t → P (step st (offer-call B d) .station) t
+    of-offer P B d t h p e =
+        on-ticket P st (offer st B d) t p (sym (step-held (blockAfter b before) st (offer-call B d) h held .0) ∙ e)
+
+    after-call : (c : Call) → Short c → Held (blockOn (blockAfter b before) c) (step st c .station)
+    after-call c h = step-held (blockAfter b before) st c h held .1
+
+  on-blocks : OnBlocks ps b
+  on-blocks = record {
+    tick-not-11 = λ before h set flags. tick-not-11 (held before h) set flags;
+    offer-not-11 = λ before h B d. offer-not-11 (held before h) B d;
+    replies-are = λ cs h. sym (answers b (freshStation ps) H cs h);
+    hard-jobs = λ before h set flags k r x short e is a.
+        hard-on-block (blockOn (blockAfter b before) (tick-call set flags)) (step (st before h) (tick-call set flags) .station) (after-call before h (tick-call set flags) short) k r x
+        (of-tick before h (HardPromise k r) set flags x short (D .hard-jobs before set flags k r e is) a);
+    uploads = λ before h B d t short a.
+        upload-on-block (blockOn (blockAfter b before) (offer-call B d)) (step (st before h) (offer-call B d) .station) (after-call before h (offer-call B d) short) B d t
+        (of-offer before h (UploadPromise B d) B d t short (D .uploads before B d) a);
+    done-told = λ before h set flags x short a.
+        let P : Station → Answer → Type 0 = λ st′ y. closedAs (y .closing) ≡ some done → doneFlag flags ≡ true in
+        of-tick before h P set flags x short (on-call P (st before h) set flags (done-is-told (st before h) set (doneFlag flags) (softFlag flags))) a;
+    clock-is = λ before h set flags x short a.
+        rw (← before-are before h) (of-tick before h (λ st′ y. y .at ≡ ticks (replies (freshStation ps) before) % 2 ^ 32) set flags x short (T .clock-is before set flags) a);
+    ticket-is = λ before h B d t short a.
+        rw (← before-are before h) (of-offer before h (λ st′ u. u ≡ acceptances (replies (freshStation ps) before) % 2 ^ 32) B d t short (T .ticket-is before B d) a);
+  }
+
+-- of any bytes that decode accepts
+pub any-block : AnyBlock
+any-block b bytes ok =
+    let x = decodedOf b in
+    let decoded : x ≡ decodedAs (x .rows) (x .state) = λ i. record { ok = ok i; rows = x .rows; state = x .state } in
+    let (is, imaged) = block-promises .decode-only b bytes (x .rows) (x .state) decoded in
+    let st = stationOf (x .rows) (x .state) in
+    let H : Held b st = record { rows = x .rows; state = x .state; imaged = imaged; block-is = sym is; station-is = refl } in
+    (st, imaged .stored .image, λ cs h. replies-held cs b st h H)
+
+-- where planning answers 0
+pub promises : Promises
+unfolding planBlock
+promises file b bytes e = go (eqb (length b) 512) (read file) refl e
+  where
+    go : (f : Bool) (R : Reading) → read file ≡ R → cond f (planOf R b) (giving (refusedPlan (number not-image) 0 0) b) .answer .refusal ≡ 0
+        → (ps : List PlannedRow) × (R ≡ read-as ps) × OnBlocks ps (cond f (planOf R b) (giving (refusedPlan (number not-image) 0 0) b) .block)
+    go true (read-as ps) q z =
+        let planned = planned-rows file bytes ps q in (
+          ps,
+          refl,
+          on-blocks ps (imageOf (rowsFor ps) (freshIn (rowsFor ps .n)))
+              (rw planned at (demand-3 (map (λ p. p .row) ps)))
+              (rw planned at (in-true-time (map (λ p. p .row) ps)))
+              (fresh-held file bytes ps q),
+        )
+    go true (unread why from size) q z = absurd (eqb-false (number why) 0 (named-back why .0) z)
+    go false R q z = absurd (omega arith)

@@ -1,0 +1,94 @@
+-- What the exported functions come to on each way through them. Assumes nothing.
+use Prim.Native.Nat.{ℕ, _<_, _≤_}
+use mathlib.Core.Bool.{Bool, true, false}
+use mathlib.Core.List.{List}
+use mathlib.Core.Path.{_≡_, sym, ap, _∙_}
+use native.Mathlib.Omega.{arith}
+use lib.ListN.{length}
+use borrow.Author.Tests.{eq-eqb, le-leb, lt-leb, ne-eqb}
+use Rattle.rules.specs.Calls.{doneFlag, softFlag}
+use Rattle.rules.specs.File.{Reading, read, read-as, unread}
+use Rattle.rules.specs.Refusals.{not-image, number, unknown-flag}
+use Rattle.table.specs.Answers.{readingOf}
+use Rattle.table.specs.declared.Refusal.{Refusal}
+use Rattle.table.specs.declared.TableRead.{TableRead}
+use Rattle.table.specs.declared.Verdict as table
+use Rattle.dispatch.specs.declared.Offered.{Offered}
+use Rattle.dispatch.specs.declared.OfferMade.{OfferMade}
+use Rattle.dispatch.specs.declared.Rows.{Rows}
+use Rattle.dispatch.specs.declared.State.{State}
+use Rattle.dispatch.specs.declared.Ticked.{Ticked}
+use Rattle.dispatch.specs.declared.Verdict.{Verdict}
+use Rattle.dispatch.specs.OfferSteps.{offerMade}
+use Rattle.dispatch.specs.Planned.{plannedRows}
+use Rattle.dispatch.specs.Steps.{freshIn, tickIn}
+use Rattle.block.specs.declared.Decoded.{Decoded}
+use Rattle.block.specs.Layout.{encodedOn, imageOf}
+use Rattle.block.specs.Tests.{decodedOf}
+use Rattle.board.specs.Blocks.{Out, giving, offerBlock, offeredOn, planBlock, planOf, tickBlock, tickDecoded, verdictOn}
+use Rattle.board.specs.Numbers.{donePlan, refusedOffer, refusedPlan, refusedTick}
+
+-- both halves of what a function gives
+pub halves : {A : Type 0} {o : Out A} {a : A} {l : List ℕ} → o ≡ giving a l → (a ≡ o .answer) × (l ≡ o .block)
+halves w = (sym (ap (λ o. o .answer) w), sym (ap (λ o. o .block) w))
+
+-- the tick
+
+module _ (b : List ℕ) (set flags : ℕ) where
+  pub flag-way : 4 ≤ flags → tickBlock b set flags ≡ giving (refusedTick (number unknown-flag) 0) b
+  unfolding tickBlock
+  flag-way h = rw (le-leb 4 flags h)
+
+  module _ (h : flags < 4) (x : Decoded) (e : x ≡ decodedOf b) where
+    decoded-way : tickBlock b set flags ≡ tickDecoded x b set flags
+    unfolding tickBlock
+    decoded-way = rw (lt-leb 4 flags h, e)
+
+    pub no-image-way : x .ok ≡ false → tickBlock b set flags ≡ giving (refusedTick (number not-image) 0) b
+    no-image-way bad = decoded-way ∙ rw bad
+
+    pub verdict-way : x .ok ≡ true → (d w : Bool) → d ≡ doneFlag flags → w ≡ softFlag flags → (r : Ticked) → r ≡ tickIn (x .rows) (x .state) set d w
+        → (v : Verdict) → r .verdict ≡ v → tickBlock b set flags ≡ verdictOn v (r .state) b
+    verdict-way good d w de we r re v ve = decoded-way ∙ rw (good, ← de, ← we, ← re, ve)
+
+-- the offer
+
+module _ (b : List ℕ) (B d : ℕ) (x : Decoded) (e : x ≡ decodedOf b) where
+  pub no-offer-way : x .ok ≡ false → offerBlock b B d ≡ giving (refusedOffer (number not-image)) b
+  unfolding offerBlock
+  no-offer-way bad = rw (← e, bad)
+
+  pub offered-way : x .ok ≡ true → (r : OfferMade) → r ≡ offerMade (x .rows) (x .state) B d → (o : Offered) → r .offered ≡ o → offerBlock b B d ≡ offeredOn o (r .state) b
+  unfolding offerBlock
+  offered-way good r re o oe = rw (← e, good, ← re, oe)
+
+-- planning
+
+module _ (file b : List ℕ) where
+  pub short-way : (length b ≡ 512 → ⊥) → planBlock file b ≡ giving (refusedPlan (number not-image) 0 0) b
+  unfolding planBlock
+  short-way h = rw (ne-eqb (length b) 512 h)
+
+  module _ (h : length b ≡ 512) (r : TableRead) (e : r ≡ readingOf (read file)) where
+    read-way : planBlock file b ≡ planOf (read file) b
+    unfolding planBlock
+    read-way = rw (eq-eqb (length b) 512 h)
+
+    pub refused-way : (x : Refusal) → r .verdict ≡ table.Verdict.Refused x → planBlock file b ≡ giving (refusedPlan (x .number) (x .from) (x .size)) b
+    refused-way x v = read-way ∙ go (read file) (sym (ap (λ (a : TableRead). a .verdict) e) ∙ v)
+      where
+        go : (R : Reading) → readingOf R .verdict ≡ table.Verdict.Refused x → planOf R b ≡ giving (refusedPlan (x .number) (x .from) (x .size)) b
+        go (read-as ps) q = let z : _≡_ {A = ℕ} 0 1 = cc in absurd (omega arith)
+        go (unread why from size) q = let same : _≡_ {A = Refusal} (record { number = number why; from = from; size = size }) x = cc in rw (← same)
+
+    pub planned-way : r .verdict ≡ table.Verdict.Accepted → planBlock file b ≡ giving donePlan (imageOf (plannedRows (r .table) (r .plan)) (freshIn (r .table .n)))
+    planned-way v = read-way ∙ go (read file) e (sym (ap (λ (a : TableRead). a .verdict) e) ∙ v)
+      where
+        go : (R : Reading) → r ≡ readingOf R → readingOf R .verdict ≡ table.Verdict.Accepted
+            → planOf R b ≡ giving donePlan (imageOf (plannedRows (r .table) (r .plan)) (freshIn (r .table .n)))
+        go (read-as ps) i q = rw i
+        go (unread why from size) i q = let z : _≡_ {A = ℕ} 0 1 = cc in absurd (omega arith)
+
+pub encoded-whole : (b : List ℕ) (rows : Rows) (s : State) → length b ≡ 512 → encodedOn b rows s ≡ imageOf rows s
+unfolding encodedOn
+encoded-whole b rows s h = rw (eq-eqb (length b) 512 h)

@@ -1,0 +1,76 @@
+-- The exported functions on byte lists: the block is decoded, the step is taken, its state is written back; a refusal leaves the block as it was. Assumes nothing.
+use Prim.Native.Nat.{ℕ}
+use mathlib.Core.Bool.{cond}
+use mathlib.Core.List.{List}
+use lib.Dec.{eqb}
+use lib.ListN.{length}
+use Rattle.rules.specs.Calls.{doneFlag, otherFlag, softFlag}
+use Rattle.rules.specs.File.{Reading, read, read-as, unread}
+use Rattle.rules.specs.Refusals.{none-ran, not-image, not-ready, number, unknown-flag, unknown-row}
+use Rattle.dispatch.specs.OfferSteps.{offerMade}
+use Rattle.dispatch.specs.Planned.{rowsFor}
+use Rattle.dispatch.specs.Steps.{freshIn, tickIn}
+use Rattle.dispatch.specs.declared.Offered.{Offered}
+use Rattle.dispatch.specs.declared.Offered.the-variants.{Refused, Ticket}
+use Rattle.dispatch.specs.declared.OfferMade.{OfferMade}
+use Rattle.dispatch.specs.declared.State.{State}
+use Rattle.dispatch.specs.declared.Ticked.{Ticked}
+use Rattle.dispatch.specs.declared.Verdict.{Verdict}
+use Rattle.dispatch.specs.declared.Verdict.the-variants.{Stepped, Unknown, NoneRan, NotReady}
+use Rattle.block.specs.Layout.{imageOf, writtenOn}
+use Rattle.block.specs.Tests.{decodedOf}
+use Rattle.block.specs.declared.Decoded.{Decoded}
+use Rattle.board.specs.declared.OfferAnswer.{OfferAnswer}
+use Rattle.board.specs.declared.PlanAnswer.{PlanAnswer}
+use Rattle.board.specs.declared.TickAnswer.{TickAnswer}
+use Rattle.board.specs.Numbers.{donePlan, refusedOffer, refusedPlan, refusedTick, rowNumber, steppedTick, takenOffer}
+
+-- what a function answers, and the block after it
+pub record Out (A : Type 0) : Type 0 where
+  pub answer : A
+  pub block : List ℕ
+
+abbrev pub giving : {A : Type 0} → A → List ℕ → Out A
+giving a b = record { answer = a; block = b }
+
+-- planning: 11 for the length only, then the file
+
+abbrev pub planOf : Reading → List ℕ → Out PlanAnswer
+planOf (read-as ps) b = giving donePlan (imageOf (rowsFor ps) (freshIn (rowsFor ps .n)))
+planOf (unread why from size) b = giving (refusedPlan (number why) from size) b
+
+unfoldable pub planBlock : List ℕ → List ℕ → Out PlanAnswer
+planBlock file b = cond (eqb (length b) 512) (planOf (read file) b) (giving (refusedPlan (number not-image) 0 0) b)
+
+-- the tick: 20, 11, then 12, 13, 14
+
+abbrev pub verdictOn : Verdict → State → List ℕ → Out TickAnswer
+verdictOn (Stepped a) s b = giving (steppedTick a) (writtenOn b s)
+verdictOn (Unknown k) s b = giving (refusedTick (number unknown-row) (rowNumber k)) b
+verdictOn NoneRan s b = giving (refusedTick (number none-ran) 0) b
+verdictOn (NotReady k) s b = giving (refusedTick (number not-ready) (rowNumber k)) b
+
+abbrev pub tickedOn : Ticked → List ℕ → Out TickAnswer
+tickedOn r b = verdictOn (r .verdict) (r .state) b
+
+abbrev pub tickDecoded : Decoded → List ℕ → ℕ → ℕ → Out TickAnswer
+tickDecoded x b set flags =
+    cond (x .ok) (tickedOn (tickIn (x .rows) (x .state) set (doneFlag flags) (softFlag flags)) b) (giving (refusedTick (number not-image) 0) b)
+
+unfoldable pub tickBlock : List ℕ → ℕ → ℕ → Out TickAnswer
+tickBlock b set flags = cond (otherFlag flags) (giving (refusedTick (number unknown-flag) 0) b) (tickDecoded (decodedOf b) b set flags)
+
+-- the offer: 11, then 15, 16, 17, 18
+
+abbrev pub offeredOn : Offered → State → List ℕ → Out OfferAnswer
+offeredOn (Ticket t) s b = giving (takenOffer t) (writtenOn b s)
+offeredOn (Refused n) s b = giving (refusedOffer n) b
+
+abbrev pub madeOn : OfferMade → List ℕ → Out OfferAnswer
+madeOn r b = offeredOn (r .offered) (r .state) b
+
+abbrev pub offerDecoded : Decoded → List ℕ → ℕ → ℕ → Out OfferAnswer
+offerDecoded x b B d = cond (x .ok) (madeOn (offerMade (x .rows) (x .state) B d) b) (giving (refusedOffer (number not-image)) b)
+
+unfoldable pub offerBlock : List ℕ → ℕ → ℕ → Out OfferAnswer
+offerBlock b B d = offerDecoded (decodedOf b) b B d

@@ -1,0 +1,101 @@
+-- The answers to C in numbers: every case of every enum. Rows are counted from 1 here; 0 stands where a number says nothing. Assumes nothing.
+use Prim.Native.Nat.{ℕ, _+_, _/_, _%_}
+use mathlib.Core.Bool.{cond}
+use lib.Dec.{ltb}
+use Rattle.dispatch.specs.declared.Answer.{Answer}
+use Rattle.dispatch.specs.declared.Band.{Band}
+use Rattle.dispatch.specs.declared.Band.the-variants.{Upper, Lower}
+use Rattle.dispatch.specs.declared.Closing.{Closing}
+use Rattle.dispatch.specs.declared.Closing.the-variants.{Nothing, HardDone, HardSpent, FirmDone, FirmSpent}
+use Rattle.dispatch.specs.declared.Runner.{Runner}
+use Rattle.dispatch.specs.declared.Runner.the-variants.{Hard, Firm, Soft, Idle}
+use Rattle.board.specs.declared.ClosingNumbers.{ClosingNumbers}
+use Rattle.board.specs.declared.OfferAnswer.{OfferAnswer}
+use Rattle.board.specs.declared.PlanAnswer.{PlanAnswer}
+use Rattle.board.specs.declared.RunnerNumbers.{RunnerNumbers}
+use Rattle.board.specs.declared.TickAnswer.{TickAnswer}
+
+abbrev pub rowNumber : ℕ → ℕ
+rowNumber k = k + 1
+
+-- the runner
+
+abbrev pub bandNumber : Band → ℕ
+bandNumber Upper = 1
+bandNumber Lower = 2
+
+abbrev pub runnerNumbers : Runner → RunnerNumbers
+runnerNumbers (Hard k band) = record { kind = 1; row = rowNumber k; band = bandNumber band; ticket = 0 }
+runnerNumbers (Firm t) = record { kind = 2; row = 0; band = 0; ticket = t }
+runnerNumbers Soft = record { kind = 3; row = 0; band = 0; ticket = 0 }
+runnerNumbers Idle = record { kind = 4; row = 0; band = 0; ticket = 0 }
+
+-- the closing
+
+abbrev pub hardClosing : ℕ → ℕ → ClosingNumbers
+hardClosing k how = record { kind = 1; row = rowNumber k; how = how; ticket = 0 }
+
+abbrev pub firmClosing : ℕ → ℕ → ClosingNumbers
+firmClosing t how = record { kind = 2; row = 0; how = how; ticket = t }
+
+abbrev pub closingNumbers : Closing → ClosingNumbers
+closingNumbers Nothing = record { kind = 0; row = 0; how = 0; ticket = 0 }
+closingNumbers (HardDone k) = hardClosing k 1
+closingNumbers (HardSpent k) = hardClosing k 2
+closingNumbers (FirmDone t) = firmClosing t 1
+closingNumbers (FirmSpent t) = firmClosing t 2
+
+-- the tick's answer
+
+abbrev pub tickNumbers : ℕ → RunnerNumbers → ClosingNumbers → TickAnswer
+tickNumbers clock r c = record {
+  clock = clock;
+  ticket = r .ticket;
+  «closed_ticket» = c .ticket;
+  refusal = 0;
+  row = 0;
+  runner = r .kind;
+  «runner_row» = r .row;
+  band = r .band;
+  closed = c .kind;
+  «closed_row» = c .row;
+  closing = c .how;
+}
+
+abbrev pub steppedTick : Answer → TickAnswer
+steppedTick a = tickNumbers (a .clock) (runnerNumbers (a .runner)) (closingNumbers (a .closing))
+
+abbrev pub refusedTick : ℕ → ℕ → TickAnswer
+refusedTick refusal row = record {
+  clock = 0;
+  ticket = 0;
+  «closed_ticket» = 0;
+  refusal = refusal;
+  row = row;
+  runner = 0;
+  «runner_row» = 0;
+  band = 0;
+  closed = 0;
+  «closed_row» = 0;
+  closing = 0;
+}
+
+-- the offer's answer
+
+abbrev pub takenOffer : ℕ → OfferAnswer
+takenOffer ticket = record { ticket = ticket; refusal = 0 }
+
+abbrev pub refusedOffer : ℕ → OfferAnswer
+refusedOffer refusal = record { ticket = 0; refusal = refusal }
+
+-- planning's answer
+
+-- the row of 6 to 10, whose ten bytes are shown
+abbrev pub rowShown : ℕ → ℕ → ℕ
+rowShown refusal from = cond (ltb refusal 6) 0 (cond (ltb 10 refusal) 0 (rowNumber (from / 10 % 16)))
+
+abbrev pub refusedPlan : ℕ → ℕ → ℕ → PlanAnswer
+refusedPlan refusal from size = record { from = from; size = size; refusal = refusal; row = rowShown refusal from }
+
+abbrev pub donePlan : PlanAnswer
+donePlan = record { from = 0; size = 0; refusal = 0; row = 0 }

@@ -1,0 +1,155 @@
+-- What a kernel may rely on, over blocks: calls on the block that planning left, each given the block that the last one left. Assumes nothing.
+-- A block is a list of bytes, and everything is counted from the answers of the exported functions (specs/Blocks.antt).
+use Prim.Native.Nat.{ℕ, _*_, _-_, _%_, _^_, _≤_}
+use mathlib.Core.Bool.{true, cond}
+use mathlib.Core.List.{List, [], _∷_, map}
+use mathlib.Core.Logic.{_⊎_}
+use mathlib.Core.Option.{some}
+use mathlib.Core.Path.{_≡_}
+use lib.Dec.{eqb}
+use lib.ListN.{getD, getElem?, length}
+use Rattle.rules.specs.Bound.{PlannedRow, plan, unplanned}
+use Rattle.rules.specs.Calls.{AllShort, Call, Reply, Reported, Short, acceptances, answered, count, doneFlag, namesRow, namesTicket, offer-call, refused, releases, replies, returns, tick-call, ticks, took}
+use Rattle.rules.specs.File.{read, read-as, scan, whole}
+use Rattle.rules.specs.Refusals.{B-zero, C-over-D, C-zero, D-over-T, Refusal, Refused, after-end, atRow, bad-rank, cut, d-under-B, none-ran, not-image, not-ready, number, passes-D, queue-full, refusal, room-short, row-17, small-output, unknown-flag, unknown-row, unknown-tag, wrong-length}
+use Rattle.rules.specs.Rows.{Row, deadline}
+use Rattle.rules.specs.Image.{isImage}
+use Rattle.rules.specs.Station.{Station, freshStation}
+use Rattle.rules.specs.Tables.{Bytes}
+use Rattle.rules.specs.Tick.{Answer, Closing, How, Runner, bit, closedAs, done, firm, firm-job, hard, hard-job, idle, lower, nothing, soft, spent, upper}
+use Rattle.block.specs.Tests.{decodedOf}
+use Rattle.board.specs.declared.OfferAnswer.{OfferAnswer}
+use Rattle.board.specs.declared.TickAnswer.{TickAnswer}
+use Rattle.board.specs.Numbers.{rowNumber}
+use Rattle.board.specs.Blocks.{Out, offerBlock, planBlock, tickBlock}
+
+-- THE ANSWERS, read as document 01's replies
+
+-- the refusals 1 to 20
+abbrev pub refusals : List Refusal
+refusals =
+    cut ∷ unknown-tag ∷ wrong-length ∷ after-end ∷ row-17 ∷ C-zero ∷ C-over-D ∷ D-over-T ∷ bad-rank ∷ passes-D
+    ∷ not-image ∷ unknown-row ∷ none-ran ∷ not-ready ∷ B-zero ∷ d-under-B ∷ queue-full ∷ room-short ∷ small-output ∷ unknown-flag ∷ []
+
+-- the refusal of a number
+abbrev pub named : ℕ → Refusal
+named n = getD refusals (n - 1) cut
+
+abbrev pub runnerIn : TickAnswer → Runner
+runnerIn a =
+    cond (eqb (a .runner) 1) (hard (a .«runner_row» - 1) (cond (eqb (a .band) 1) upper lower))
+    (cond (eqb (a .runner) 2) (firm (a .ticket))
+    (cond (eqb (a .runner) 3) soft idle))
+
+abbrev pub howIn : TickAnswer → How
+howIn a = cond (eqb (a .closing) 1) done spent
+
+abbrev pub closingIn : TickAnswer → Closing
+closingIn a =
+    cond (eqb (a .closed) 1) (hard-job (a .«closed_row» - 1) (howIn a))
+    (cond (eqb (a .closed) 2) (firm-job (a .«closed_ticket») (howIn a)) nothing)
+
+abbrev pub tickReply : TickAnswer → Reply
+tickReply a =
+    cond (eqb (a .refusal) 0) (answered (record { at = a .clock; runner = runnerIn a; closing = closingIn a }))
+    (refused (atRow (named (a .refusal)) (a .row - 1)))
+
+abbrev pub offerReply : OfferAnswer → Reply
+offerReply a = cond (eqb (a .refusal) 0) (took (a .ticket)) (refused (refusal (named (a .refusal))))
+
+-- CALLS ON A BLOCK, one after the other
+
+-- the reply to a call
+abbrev pub replyOn : List ℕ → Call → Reply
+replyOn b (tick-call set flags) = tickReply (tickBlock b set flags .answer)
+replyOn b (offer-call B d) = offerReply (offerBlock b B d .answer)
+
+-- the block after it
+abbrev pub blockOn : List ℕ → Call → List ℕ
+blockOn b (tick-call set flags) = tickBlock b set flags .block
+blockOn b (offer-call B d) = offerBlock b B d .block
+
+-- the replies to calls, in order
+abbrev pub blockReplies : List ℕ → List Call → List Reply
+blockReplies b [] = []
+blockReplies b (c ∷ cs) = replyOn b c ∷ blockReplies (blockOn b c) cs
+
+-- the block after all of them
+abbrev pub blockAfter : List ℕ → List Call → List ℕ
+blockAfter b [] = b
+blockAfter b (c ∷ cs) = blockAfter (blockOn b c) cs
+
+-- WHAT A CONTRACT ALLOWS, of each exported function on each input: this answer, and this block at its end
+abbrev pub Allowed : {A : Type 0} → Out A → A → List ℕ → Type 0
+Allowed o answer block = (answer ≡ o .answer) × (block ≡ o .block)
+
+-- two results that are both allowed are equal
+abbrev pub OneResult : {A : Type 0} → Out A → Type 0
+OneResult {A} o = (r r′ : A) (e e′ : List ℕ) → Allowed o r e → Allowed o r′ e′ → (r ≡ r′) × (e ≡ e′)
+
+pub record OneResults : Type 0 where
+  pub of-plan : (file b : List ℕ) → OneResult (planBlock file b)
+  pub of-tick : (b : List ℕ) (set flags : ℕ) → OneResult (tickBlock b set flags)
+  pub of-offer : (b : List ℕ) (B d : ℕ) → OneResult (offerBlock b B d)
+
+-- DEMAND 1, of any bytes at all: where the answer is a refusal, every byte is as before the call
+pub record Untouched : Type 0 where
+  pub plan-refused : (file b : List ℕ) → (planBlock file b .answer .refusal ≡ 0 → ⊥) → planBlock file b .block ≡ b
+  pub tick-refused : (b : List ℕ) (set flags : ℕ) → (tickBlock b set flags .answer .refusal ≡ 0 → ⊥) → tickBlock b set flags .block ≡ b
+  pub offer-refused : (b : List ℕ) (B d : ℕ) → (offerBlock b B d .answer .refusal ≡ 0 → ⊥) → offerBlock b B d .block ≡ b
+
+-- DEMAND 2, of any bytes that decode accepts: they are a state of document 01's conditions, and the replies are those of its dispatcher
+abbrev pub AnyBlock : Type 0
+AnyBlock = (b : List ℕ) → Bytes b → decodedOf b .ok ≡ true
+    → (st : Station) × (isImage st ≡ true) × ((cs : List Call) → AllShort cs → blockReplies b cs ≡ replies st cs)
+
+-- PLANNING, where 6 to 10 refuse a row: its number, and its ten bytes
+abbrev pub RowNamed : Type 0
+RowNamed = (file b : List ℕ) → Bytes file → length b ≡ 512 → (rs : List Row) → scan 16 0 file ≡ whole rs → (x : Refused) → plan rs ≡ unplanned x
+    → planBlock file b .answer ≡ record { from = 10 * x .row; size = 10; refusal = number (x .why); row = rowNumber (x .row) }
+
+-- DEMAND 3, a hard job. A tick released the row r at position k and answered x; b is the block after it. Whatever calls follow:
+pub record HardOnBlock (k : ℕ) (r : Row) (b : List ℕ) (x : Answer) : Type 0 where
+  -- when D ticks have been stepped from the release on, C of their answers have named the row, or a later one reported the job done
+  pub in-time : (later : List Call) → AllShort later → deadline r ≤ ticks (answered x ∷ blockReplies b later)
+      → (r .C ≤ count (namesRow k) (answered x ∷ blockReplies b later)) ⊎ Reported (hard-job k done) (blockReplies b later)
+  -- up to the next release of the row, no more than C name it
+  pub never-more : (later : List Call) → AllShort later → releases k later (blockReplies b later) ≡ 0
+      → count (namesRow k) (answered x ∷ blockReplies b later) ≤ r .C
+
+-- DEMAND 3, an upload. An offer of budget B and deadline d was accepted with the ticket t; b is the block after it. Whatever calls follow:
+pub record UploadOnBlock (B d : ℕ) (b : List ℕ) (t : ℕ) : Type 0 where
+  -- when d ticks have been stepped from the acceptance on, B of their answers have named the ticket, or one reported the upload done
+  pub in-time : (later : List Call) → AllShort later → d ≤ ticks (blockReplies b later)
+      → (B ≤ count (namesTicket t) (blockReplies b later)) ⊎ Reported (firm-job t done) (blockReplies b later)
+  -- up to the next acceptance that returns the ticket, no more than B name it
+  pub never-more : (later : List Call) → AllShort later → returns t (blockReplies b later) ≡ 0 → count (namesTicket t) (blockReplies b later) ≤ B
+
+-- Of the block b that planning left of the table ps, after any calls whose numbers have the widths that C hands in:
+pub record OnBlocks (ps : List PlannedRow) (b : List ℕ) : Type 0 where
+  -- no call is refused as no image
+  pub tick-not-11 : (before : List Call) → AllShort before → (set flags : ℕ) → tickBlock (blockAfter b before) set flags .answer .refusal ≡ 11 → ⊥
+  pub offer-not-11 : (before : List Call) → AllShort before → (B d : ℕ) → offerBlock (blockAfter b before) B d .answer .refusal ≡ 11 → ⊥
+  -- DEMAND 2: the replies are those of document 01's dispatcher
+  pub replies-are : (cs : List Call) → AllShort cs → blockReplies b cs ≡ replies (freshStation ps) cs
+  -- DEMAND 3: a tick that is answered keeps its promise to every row that it releases ..
+  pub hard-jobs : (before : List Call) → AllShort before → (set flags k : ℕ) (r : Row) (x : Answer) → Short (tick-call set flags)
+      → bit set k ≡ true → getElem? (map (λ p. p .row) ps) k ≡ some r → replyOn (blockAfter b before) (tick-call set flags) ≡ answered x
+      → HardOnBlock k r (blockOn (blockAfter b before) (tick-call set flags)) x
+  -- .. and an offer that is accepted to its upload
+  pub uploads : (before : List Call) → AllShort before → (B d t : ℕ) → Short (offer-call B d)
+      → replyOn (blockAfter b before) (offer-call B d) ≡ took t
+      → UploadOnBlock B d (blockOn (blockAfter b before) (offer-call B d)) t
+  -- a job is reported done only if the done flag says so
+  pub done-told : (before : List Call) → AllShort before → (set flags : ℕ) (x : Answer) → Short (tick-call set flags)
+      → replyOn (blockAfter b before) (tick-call set flags) ≡ answered x → closedAs (x .closing) ≡ some done → doneFlag flags ≡ true
+  -- the clock in an answer is the number of ticks stepped before it, and a ticket the number of acceptances, modulo 2^32
+  pub clock-is : (before : List Call) → AllShort before → (set flags : ℕ) (x : Answer) → Short (tick-call set flags)
+      → replyOn (blockAfter b before) (tick-call set flags) ≡ answered x → x .at ≡ ticks (blockReplies b before) % 2 ^ 32
+  pub ticket-is : (before : List Call) → AllShort before → (B d t : ℕ) → Short (offer-call B d)
+      → replyOn (blockAfter b before) (offer-call B d) ≡ took t → t ≡ acceptances (blockReplies b before) % 2 ^ 32
+
+-- ALL OF IT: where planning answers 0, the file is a table's, and its block keeps the promises
+abbrev pub Promises : Type 0
+Promises = (file b : List ℕ) → Bytes file → planBlock file b .answer .refusal ≡ 0
+    → (ps : List PlannedRow) × (read file ≡ read-as ps) × OnBlocks ps (planBlock file b .block)

@@ -1,0 +1,322 @@
+// What a C kernel calls: planning, the tick and the upload offer, on numbers and a lent block of 512 bytes.
+ghost use mathlib.Core.Path.{_≡_};
+ghost use Prim.Native.Nat.{_<_};
+ghost use Rattle.rules.specs.Calls.{doneFlag, softFlag};
+ghost use Rattle.dispatch.specs.Below.{RunnerBelow, ClosingBelow, AnswerBelow};
+ghost use Rattle.board.specs.Numbers.{bandNumber, runnerNumbers, hardClosing, firmClosing, closingNumbers, rowNumber, rowShown, refusedTick, steppedTick, refusedPlan};
+ghost use Rattle.board.specs.Blocks.{planBlock, tickBlock, offerBlock};
+use dispatch::Answer;
+use dispatch::Band;
+use dispatch::Closing;
+use dispatch::Offered;
+use dispatch::Runner;
+use dispatch::Verdict;
+
+// refusal: 0, or document 01's number. row: of 6 to 10, else 0. from, size: the shown part of the table file, of 1 to 10, else 0.
+#[repr(C)]
+pub struct PlanAnswer {
+    pub from: usize,
+    pub size: usize,
+    pub refusal: u8,
+    pub row: u8,
+}
+
+// refusal: 0, or document 01's number. row: of 12 and 14, else 0.
+// runner: 1 hard, with its row and band (1 upper, 2 lower), 2 firm, with its ticket, 3 soft, 4 idle.
+// closed: 0 nothing, 1 hard, with its row, 2 firm, with its ticket; closing: 1 done, 2 spent. A refusal has 0 in every other field.
+#[repr(C)]
+pub struct TickAnswer {
+    pub clock: u32,
+    pub ticket: u32,
+    pub closed_ticket: u32,
+    pub refusal: u8,
+    pub row: u8,
+    pub runner: u8,
+    pub runner_row: u8,
+    pub band: u8,
+    pub closed: u8,
+    pub closed_row: u8,
+    pub closing: u8,
+}
+
+// refusal: 0, or document 01's number, and then ticket is 0.
+#[repr(C)]
+pub struct OfferAnswer {
+    pub ticket: u32,
+    pub refusal: u8,
+}
+
+// Plans the table of a file into a fresh block: 11 for its length only, then 1 to 10. A refusal writes nothing.
+#[no_mangle]
+pub extern "C" fn heechstjer_plan(table: &[u8], block: &mut [u8]) -> PlanAnswer
+    ensures { λ r. ⌜ r ≡ planBlock (now (table .entry)) (now (block .entry)) .answer ⌝ }
+    ensures { λ _. ⌜ now (block .exit) ≡ planBlock (now (table .entry)) (now (block .entry)) .block ⌝ }
+{
+    if block.len() != 512 {
+        return refused_plan(11, 0, 0);
+    }
+    let reading = table::read_table(table);
+    let verdict = reading.verdict;
+    match verdict {
+        table::Verdict::Refused(refusal) => refused_plan(
+            refusal.number,
+            refusal.from,
+            refusal.size,
+        ),
+        table::Verdict::Accepted => {
+            let tb = reading.table;
+            let plan = reading.plan;
+            let rows = dispatch::planned_rows(tb, plan);
+            let state = dispatch::fresh_state(rows.n);
+            block::encode(rows, state, block);
+            PlanAnswer {
+                from: 0,
+                size: 0,
+                refusal: 0,
+                row: 0,
+            }
+        }
+    }
+}
+
+// One tick: 20, 11, 12, 13, 14. A refusal leaves the block as it was.
+#[no_mangle]
+pub extern "C" fn heechstjer_tick(block: &mut [u8], set: u16, flags: u8) -> TickAnswer
+    ensures { λ r. ⌜ r ≡ tickBlock (now (block .entry)) set flags .answer ⌝ }
+    ensures { λ _. ⌜ now (block .exit) ≡ tickBlock (now (block .entry)) set flags .block ⌝ }
+{
+    if 4 <= flags {
+        return refused_tick(20, 0);
+    }
+    let decoded = block::decode(block);
+    if decoded.ok {
+        let rows = decoded.rows;
+        let state = decoded.state;
+        let ticked = dispatch::tick(rows, state, set, done_flag(flags), soft_flag(flags));
+        let verdict = ticked.verdict;
+        match verdict {
+            Verdict::Stepped(answer) => {
+                let next = ticked.state;
+                block::write_state(next, block);
+                stepped_tick(answer)
+            }
+            Verdict::Unknown(k) => refused_tick(12, row_number(k)),
+            Verdict::NoneRan => refused_tick(13, 0),
+            Verdict::NotReady(k) => refused_tick(14, row_number(k)),
+        }
+    } else {
+        refused_tick(11, 0)
+    }
+}
+
+// One offer: 11, 15, 16, 17, 18. A refusal leaves the block as it was.
+#[no_mangle]
+pub extern "C" fn heechstjer_offer(block: &mut [u8], budget: u16, deadline: u16) -> OfferAnswer
+    ensures { λ r. ⌜ r ≡ offerBlock (now (block .entry)) budget deadline .answer ⌝ }
+    ensures { λ _. ⌜ now (block .exit) ≡ offerBlock (now (block .entry)) budget deadline .block ⌝ }
+{
+    let decoded = block::decode(block);
+    if decoded.ok {
+        let rows = decoded.rows;
+        let state = decoded.state;
+        let made = dispatch::offer::offer(rows, state, budget, deadline);
+        let offered = made.offered;
+        let Offered::Ticket(ticket) = offered else {
+            return OfferAnswer {
+                ticket: 0,
+                refusal: dispatch::offer_number(offered),
+            };
+        };
+        let next = made.state;
+        block::write_state(next, block);
+        OfferAnswer { ticket, refusal: 0 }
+    } else {
+        OfferAnswer {
+            ticket: 0,
+            refusal: 11,
+        }
+    }
+}
+
+// The row of a refused table: 6 to 10 show its ten bytes.
+fn refused_plan(refusal: u8, from: usize, size: usize) -> PlanAnswer
+    ensures { λ r. ⌜ r ≡ refusedPlan refusal from size ⌝ }
+{
+    PlanAnswer {
+        from,
+        size,
+        refusal,
+        row: row_shown(refusal, from),
+    }
+}
+
+fn row_shown(refusal: u8, from: usize) -> u8
+    ensures { λ r. ⌜ r ≡ rowShown refusal from ⌝ }
+{
+    if refusal < 6 {
+        return 0;
+    }
+    if 10 < refusal {
+        return 0;
+    }
+    row_number(from / 10 % 16)
+}
+
+fn done_flag(flags: u8) -> bool
+    ensures { λ r. ⌜ r ≡ doneFlag flags ⌝ }
+{
+    flags % 2 == 1
+}
+
+fn soft_flag(flags: u8) -> bool
+    ensures { λ r. ⌜ r ≡ softFlag flags ⌝ }
+{
+    flags / 2 % 2 == 1
+}
+
+fn refused_tick(refusal: u8, row: u8) -> TickAnswer
+    ensures { λ r. ⌜ r ≡ refusedTick refusal row ⌝ }
+{
+    TickAnswer {
+        clock: 0,
+        ticket: 0,
+        closed_ticket: 0,
+        refusal,
+        row,
+        runner: 0,
+        runner_row: 0,
+        band: 0,
+        closed: 0,
+        closed_row: 0,
+        closing: 0,
+    }
+}
+
+fn stepped_tick(answer: Answer) -> TickAnswer
+    requires { ⌜ AnswerBelow answer ⌝ }
+    ensures { λ r. ⌜ r ≡ steppedTick answer ⌝ }
+{
+    let runner = answer.runner;
+    let closing = answer.closing;
+    let runs = runner_numbers(runner);
+    let closes = closing_numbers(closing);
+    TickAnswer {
+        clock: answer.clock,
+        ticket: runs.ticket,
+        closed_ticket: closes.ticket,
+        refusal: 0,
+        row: 0,
+        runner: runs.kind,
+        runner_row: runs.row,
+        band: runs.band,
+        closed: closes.kind,
+        closed_row: closes.row,
+        closing: closes.how,
+    }
+}
+
+// Rows are counted from 1.
+fn row_number(k: usize) -> u8
+    requires { ⌜ k < 16 ⌝ }
+    ensures { λ r. ⌜ r ≡ rowNumber k ⌝ }
+{
+    k as u8 + 1
+}
+
+// A runner in numbers; 0 where a number says nothing.
+struct RunnerNumbers {
+    kind: u8,
+    row: u8,
+    band: u8,
+    ticket: u32,
+}
+
+fn runner_numbers(runner: Runner) -> RunnerNumbers
+    requires { ⌜ RunnerBelow runner ⌝ }
+    ensures { λ r. ⌜ r ≡ runnerNumbers runner ⌝ }
+{
+    match runner {
+        Runner::Hard(k, band) => RunnerNumbers {
+            kind: 1,
+            row: row_number(k),
+            band: band_number(band),
+            ticket: 0,
+        },
+        Runner::Firm(ticket) => RunnerNumbers {
+            kind: 2,
+            row: 0,
+            band: 0,
+            ticket,
+        },
+        Runner::Soft => RunnerNumbers {
+            kind: 3,
+            row: 0,
+            band: 0,
+            ticket: 0,
+        },
+        Runner::Idle => RunnerNumbers {
+            kind: 4,
+            row: 0,
+            band: 0,
+            ticket: 0,
+        },
+    }
+}
+
+fn band_number(band: Band) -> u8
+    ensures { λ r. ⌜ r ≡ bandNumber band ⌝ }
+{
+    match band {
+        Band::Upper => 1,
+        Band::Lower => 2,
+    }
+}
+
+// A closing in numbers; 0 where a number says nothing.
+struct ClosingNumbers {
+    kind: u8,
+    row: u8,
+    how: u8,
+    ticket: u32,
+}
+
+fn closing_numbers(closing: Closing) -> ClosingNumbers
+    requires { ⌜ ClosingBelow closing ⌝ }
+    ensures { λ r. ⌜ r ≡ closingNumbers closing ⌝ }
+{
+    match closing {
+        Closing::Nothing => ClosingNumbers {
+            kind: 0,
+            row: 0,
+            how: 0,
+            ticket: 0,
+        },
+        Closing::HardDone(k) => hard_closing(k, 1),
+        Closing::HardSpent(k) => hard_closing(k, 2),
+        Closing::FirmDone(ticket) => firm_closing(ticket, 1),
+        Closing::FirmSpent(ticket) => firm_closing(ticket, 2),
+    }
+}
+
+fn hard_closing(k: usize, how: u8) -> ClosingNumbers
+    requires { ⌜ k < 16 ⌝ }
+    ensures { λ r. ⌜ r ≡ hardClosing k how ⌝ }
+{
+    ClosingNumbers {
+        kind: 1,
+        row: row_number(k),
+        how,
+        ticket: 0,
+    }
+}
+
+fn firm_closing(ticket: u32, how: u8) -> ClosingNumbers
+    ensures { λ r. ⌜ r ≡ firmClosing ticket how ⌝ }
+{
+    ClosingNumbers {
+        kind: 2,
+        row: 0,
+        how,
+        ticket,
+    }
+}

@@ -1,0 +1,241 @@
+/* heechstjer.h: who runs, tick by tick. The C interface of the Heechstjer dispatcher.
+ *
+ * A kernel plans a hard table into a block of 512 bytes, then asks at every tick who runs, and between
+ * ticks offers uploads. Three functions, each with one answer, a struct by value. "Document 01" is the
+ * rules paper; C, D, T, U, n, rank, B and d are its letters: ticks of work, deadline, period, promotion
+ * time, number of rows, place in the lower band, an upload's budget and its deadline. Rows count from 1.
+ *
+ * Of every function below:
+ *
+ * - Nothing is allocated, nothing is global, nothing lent is kept. Table and block are the caller's before,
+ *   during and after the call; a table may be thrown away once it is planned.
+ * - A pointer is followed by the number of bytes it points to. It is never NULL, not even with 0 bytes.
+ *   Table and block do not overlap. A block needs no alignment.
+ * - The first check that fails, in the order given, is the refusal. Its number stands in the field `refusal`,
+ *   where 0 says accepted.
+ * - A refusal writes nothing: every byte of the block is as before the call, and the next call is answered
+ *   as if the refused one had not been made. Every field of the answer that the refusal isn't said to give is 0.
+ * - The answer and the block's new bytes depend on the arguments and the block's bytes alone. So a copy of a
+ *   block, at any address, is the same state; and two blocks know nothing of each other.
+ * - What is said of being in time holds for a block that only these functions have written since it was planned.
+ * - Threads: calls on different blocks may run at the same time, calls on one block may not. Where an interrupt
+ *   makes the ticks, hold it off while you make an offer on its block.
+ *
+ * The header needs C99 or C++11 and no library: its three includes are there on a board without one.
+ */
+#ifndef HEECHSTJER_H
+#define HEECHSTJER_H
+
+#include <stdbool.h>
+#include <stddef.h>
+#include <stdint.h>
+
+#ifdef __cplusplus
+extern "C" {
+#endif
+
+/* Sizes. */
+#define HEECHSTJER_BLOCK_BYTES 512 /* the state block, never more or fewer */
+#define HEECHSTJER_MOST_ROWS 16    /* a table has 0 to 16 rows */
+#define HEECHSTJER_MOST_UPLOADS 8  /* firm jobs queued at one time */
+#define HEECHSTJER_ROW_BYTES 10    /* a row in a table file: 01 00 07, C, D, T (2 bytes each), rank (1), big-endian */
+#define HEECHSTJER_END_BYTES 3     /* the end field of a table file: 0f 00 00, required and last */
+#define HEECHSTJER_MOST_TABLE_BYTES 163 /* the longest table that is accepted: 16 rows and the end field */
+
+/* Refusals, by document 01's numbers. */
+enum heechstjer_refusal {
+    HEECHSTJER_ACCEPTED = 0,
+    HEECHSTJER_REFUSED_CUT = 1,           /* table: fewer than 3 bytes where a field must start, or its value is cut */
+    HEECHSTJER_REFUSED_UNKNOWN_TAG = 2,   /* table: a tag other than 01 and 0f */
+    HEECHSTJER_REFUSED_WRONG_LENGTH = 3,  /* table: a length other than 7 for tag 01, 0 for tag 0f */
+    HEECHSTJER_REFUSED_AFTER_END = 4,     /* table: bytes after the end field */
+    HEECHSTJER_REFUSED_ROW_17 = 5,        /* table: a 17th row */
+    HEECHSTJER_REFUSED_C_ZERO = 6,        /* row: C = 0 */
+    HEECHSTJER_REFUSED_C_OVER_D = 7,      /* row: C > D */
+    HEECHSTJER_REFUSED_D_OVER_T = 8,      /* row: D > T */
+    HEECHSTJER_REFUSED_BAD_RANK = 9,      /* row: rank >= n, or used by an earlier row */
+    HEECHSTJER_REFUSED_PASSES_D = 10,     /* row: the iteration of its response bound passes D */
+    HEECHSTJER_REFUSED_NOT_IMAGE = 11,    /* block: not 512 bytes, or not the image of a state */
+    HEECHSTJER_REFUSED_UNKNOWN_ROW = 12,  /* tick: a release bit of a row above n */
+    HEECHSTJER_REFUSED_NONE_RAN = 13,     /* tick: done, and the last accepted tick ran no hard or firm job */
+    HEECHSTJER_REFUSED_NOT_READY = 14,    /* tick: a released row isn't rested, or its job is still open */
+    HEECHSTJER_REFUSED_B_ZERO = 15,       /* offer: B = 0 */
+    HEECHSTJER_REFUSED_D_UNDER_B = 16,    /* offer: d < B */
+    HEECHSTJER_REFUSED_QUEUE_FULL = 17,   /* offer: 8 firm jobs are queued */
+    HEECHSTJER_REFUSED_ROOM_SHORT = 18,   /* offer: the hard rows and the queue leave fewer than B of d ticks */
+    HEECHSTJER_REFUSED_SMALL_OUTPUT = 19, /* given by no function of this header */
+    HEECHSTJER_REFUSED_UNKNOWN_FLAG = 20  /* tick: a flag bit other than done and soft */
+};
+
+/* The flags of a tick, one number. */
+enum heechstjer_flag {
+    HEECHSTJER_FLAG_DONE = 1, /* the job that the last accepted tick ran has finished */
+    HEECHSTJER_FLAG_SOFT = 2  /* soft work wants this tick */
+};
+
+/* Who runs. */
+enum heechstjer_runner {
+    HEECHSTJER_RUNNER_NONE = 0, /* only where the tick is refused */
+    HEECHSTJER_RUNNER_HARD = 1, /* the job of a row */
+    HEECHSTJER_RUNNER_FIRM = 2, /* an accepted upload */
+    HEECHSTJER_RUNNER_SOFT = 3,
+    HEECHSTJER_RUNNER_IDLE = 4
+};
+
+/* The band of a hard runner. */
+enum heechstjer_band {
+    HEECHSTJER_BAND_NONE = 0,  /* the runner isn't hard */
+    HEECHSTJER_BAND_UPPER = 1, /* promoted: U or more ticks have passed since its release */
+    HEECHSTJER_BAND_LOWER = 2  /* not promoted yet: it runs where no firm or soft work wants the tick */
+};
+
+/* What kind of job closed. */
+enum heechstjer_closed {
+    HEECHSTJER_CLOSED_NOTHING = 0,
+    HEECHSTJER_CLOSED_HARD = 1,
+    HEECHSTJER_CLOSED_FIRM = 2
+};
+
+/* How it closed. */
+enum heechstjer_closing {
+    HEECHSTJER_CLOSING_NONE = 0,
+    HEECHSTJER_CLOSING_DONE = 1, /* the done flag said so */
+    HEECHSTJER_CLOSING_SPENT = 2 /* its C or budget is run and nobody said done: an upload is then NOT complete */
+};
+
+/* The answer of planning. */
+typedef struct heechstjer_plan_answer {
+    size_t from;     /* refusals 1 to 10: where the offending bytes start in the table, else 0 */
+    size_t size;     /* refusals 1 to 10: how many they are, else 0 */
+    uint8_t refusal; /* 0, or 1 to 11 */
+    uint8_t row;     /* refusals 6 to 10: the row, 1 to 16, else 0 */
+} heechstjer_plan_answer;
+
+/* The answer of a tick. */
+typedef struct heechstjer_tick_answer {
+    uint32_t clock;         /* this tick: the accepted ticks before it since planning, modulo 2^32; 0 if refused */
+    uint32_t ticket;        /* the ticket of the runner, if firm, else 0 */
+    uint32_t closed_ticket; /* the ticket of the job that closed, if firm, else 0 */
+    uint8_t refusal;        /* 0, 11 to 14, or 20 */
+    uint8_t row;            /* refusals 12 and 14: the row of the lowest offending bit, 1 to 16, else 0 */
+    uint8_t runner;         /* enum heechstjer_runner: 1 to 4 if accepted, 0 if refused */
+    uint8_t runner_row;     /* the row of the runner, 1 to 16, if hard, else 0 */
+    uint8_t band;           /* enum heechstjer_band: 1 or 2 if the runner is hard, else 0 */
+    uint8_t closed;         /* enum heechstjer_closed: 0 if no job closed */
+    uint8_t closed_row;     /* the row of the job that closed, 1 to 16, if hard, else 0 */
+    uint8_t closing;        /* enum heechstjer_closing: 0 if no job closed */
+} heechstjer_tick_answer;
+
+/* The answer of an offer. A ticket is a number from 0 on: see `refusal` first. */
+typedef struct heechstjer_offer_answer {
+    uint32_t ticket; /* accepted: the acceptances before it since planning, modulo 2^32; 0 if refused */
+    uint8_t refusal; /* 0, 11, or 15 to 18 */
+} heechstjer_offer_answer;
+
+/* Plans the table of a file into a block, and makes it a fresh state.
+ *
+ * Accepted: refusal, row, from and size are 0 and all 512 bytes of the block are written. They depend on the
+ * table alone, not on what the block held. The clock is 0, every row is rested, no job is open or queued,
+ * and the first ticket will be 0.
+ *
+ * Checks, in this order:
+ *   11       block_bytes is not 512. The block's content is not looked at. from and size are 0.
+ *   1 2 3 5  at each field in turn: fewer than 3 bytes left (1), tag (2), length (3), a 17th row (5), then
+ *            value cut (1). from is the field's start. size is 3 for 2, 3 and 5; for 1 it reaches to the
+ *            end of the table and may be 0. A table of 0 bytes is refused with 1; that of 0 rows is 0f 00 00.
+ *   4        bytes after the end field: from is the first of them, size is all of them.
+ *   6 7 8 9  in each row in turn. row is the row, from its first byte, size 10.
+ *   10       then again in each row in turn. row, from and size as for 6 to 9.
+ * The shown bytes lie in the table: from + size <= table_bytes. They are table[from] and on; no copy is made.
+ */
+heechstjer_plan_answer heechstjer_plan(const uint8_t *table, size_t table_bytes, uint8_t *block, size_t block_bytes);
+
+/* Steps one tick. Bit 0 of released releases row 1, bit 15 row 16. flags is HEECHSTJER_FLAG_DONE,
+ * HEECHSTJER_FLAG_SOFT, both or 0.
+ *
+ * Accepted: refusal and row are 0, and in this order
+ *   closed   the job that the last accepted tick ran closes: as done if the done flag is set, else as spent if it
+ *            has run its whole C or budget, else not at all. No other job closes. closed, closed_row or
+ *            closed_ticket, and closing say so. Without the done flag, closing is never done.
+ *   released each set bit opens a job of that row.
+ *   chosen   the first that exists: the promoted job of the smallest row; the upload accepted first; soft work,
+ *            if its flag is set; the unpromoted job of the smallest rank; idle. A job is promoted from U
+ *            ticks after its release on, that tick included. runner, with runner_row and band or ticket, says who.
+ *   run      the runner has this tick; the clock advances by one.
+ * The block is written back. A row that is released and not reported done is named C times in the D ticks from its
+ * release on, whatever else is called, and never more than C times from one release to the next.
+ *
+ * Checks, in this order:
+ *   20  a flag bit other than done and soft.
+ *   11  block_bytes is not 512, or the block's bytes are not the image of a state.
+ *   12  a bit of a row above n. row is the lowest such row.
+ *   13  the done flag, and the last accepted tick ran soft work or nothing, or there was none since planning.
+ *       Refused ticks and offers in between don't count.
+ *   14  a row that was released fewer than T accepted ticks ago, or that has a job open which this call doesn't
+ *       close. row is the lowest such row.
+ * Refused: the clock stands still, nothing closes, nothing is released, nobody runs.
+ */
+heechstjer_tick_answer heechstjer_tick(uint8_t *block, size_t block_bytes, uint16_t released, uint8_t flags);
+
+/* Offers an upload: budget ticks of work, to be had in the next deadline ticks. Made between ticks.
+ *
+ * Accepted: refusal is 0, ticket names the upload, and it is the last in the queue. Unless it is reported done
+ * before, it is named budget times in the next deadline accepted ticks, whatever else is called, and never more.
+ * It is complete only when a tick's answer closes it as done. It keeps its place in the queue until it closes.
+ *
+ * Checks, in this order:
+ *   11  block_bytes is not 512, or the block's bytes are not the image of a state.
+ *   15  budget is 0.
+ *   16  deadline is below budget.
+ *   17  8 uploads are queued.
+ *   18  room is short: of the next deadline ticks, those that hard rows may claim and those that the queued uploads
+ *       still have to run leave fewer than budget (document 01, "The upload offer").
+ * Refused: ticket is 0, and that is no ticket. The clock doesn't move in either case.
+ */
+heechstjer_offer_answer heechstjer_offer(uint8_t *block, size_t block_bytes, uint16_t budget, uint16_t deadline);
+
+/* The same three on a block of the right size, which the caller declares as
+ *     uint8_t block[HEECHSTJER_BLOCK_BYTES];
+ * gcc warns of a smaller one. 11 is then given only for its content.
+ */
+static inline heechstjer_plan_answer
+heechstjer_plan_in(uint8_t block[HEECHSTJER_BLOCK_BYTES], const uint8_t *table, size_t table_bytes)
+{
+    return heechstjer_plan(table, table_bytes, block, HEECHSTJER_BLOCK_BYTES);
+}
+
+static inline heechstjer_tick_answer
+heechstjer_tick_in(uint8_t block[HEECHSTJER_BLOCK_BYTES], uint16_t released, uint8_t flags)
+{
+    return heechstjer_tick(block, HEECHSTJER_BLOCK_BYTES, released, flags);
+}
+
+static inline heechstjer_offer_answer
+heechstjer_offer_in(uint8_t block[HEECHSTJER_BLOCK_BYTES], uint16_t budget, uint16_t deadline)
+{
+    return heechstjer_offer(block, HEECHSTJER_BLOCK_BYTES, budget, deadline);
+}
+
+/* The release bit of a row: bit row - 1 for 1 to 16, no bit for any other number. */
+static inline uint16_t heechstjer_row_bit(unsigned row)
+{
+    return (uint16_t)(row >= 1 && row <= HEECHSTJER_MOST_ROWS ? 1u << (row - 1) : 0u);
+}
+
+/* Whether this tick closed the upload of this ticket, done or spent. */
+static inline bool heechstjer_upload_closed(heechstjer_tick_answer answer, uint32_t ticket)
+{
+    return answer.closed == HEECHSTJER_CLOSED_FIRM && answer.closed_ticket == ticket;
+}
+
+/* Whether this tick closed it as done. Only then is the upload complete. */
+static inline bool heechstjer_upload_complete(heechstjer_tick_answer answer, uint32_t ticket)
+{
+    return heechstjer_upload_closed(answer, ticket) && answer.closing == HEECHSTJER_CLOSING_DONE;
+}
+
+#ifdef __cplusplus
+}
+#endif
+
+#endif

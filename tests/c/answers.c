@@ -1,0 +1,833 @@
+/* answers.c: what heechstjer.h says, tried through the C interface.
+ *
+ * A line a test, `ok` or `FAILED` with the place and what didn't hold; the exit status is 0 if all are ok. Answers to
+ * ticks are compared in the words of document 01's listing, and each is held to the header's rules for the
+ * fields that must be 0. Blocks stand between guard bytes, at an odd address; blocks of a wrong length
+ * have a piece of the heap of just that length, so that valgrind sees a byte too many.
+ */
+#include <heechstjer.h>
+#include <stdio.h>
+#include <stdlib.h>
+#include <string.h>
+
+/* ---- The layout of the answers, held when this file is compiled ---- */
+
+#define HELD(name, condition) typedef char name[(condition) ? 1 : -1]
+#define AT(type, field, place) HELD(type##_##field##_at_##place, offsetof(heechstjer_##type##_answer, field) == place)
+
+HELD(plan_answer_has_24_bytes, sizeof(heechstjer_plan_answer) == 24);
+AT(plan, from, 0);
+AT(plan, size, 8);
+AT(plan, refusal, 16);
+AT(plan, row, 17);
+
+HELD(tick_answer_has_20_bytes, sizeof(heechstjer_tick_answer) == 20);
+AT(tick, clock, 0);
+AT(tick, ticket, 4);
+AT(tick, closed_ticket, 8);
+AT(tick, refusal, 12);
+AT(tick, row, 13);
+AT(tick, runner, 14);
+AT(tick, runner_row, 15);
+AT(tick, band, 16);
+AT(tick, closed, 17);
+AT(tick, closed_row, 18);
+AT(tick, closing, 19);
+
+HELD(offer_answer_has_8_bytes, sizeof(heechstjer_offer_answer) == 8);
+AT(offer, ticket, 0);
+AT(offer, refusal, 4);
+
+HELD(longest_table, HEECHSTJER_MOST_TABLE_BYTES == HEECHSTJER_MOST_ROWS * HEECHSTJER_ROW_BYTES + HEECHSTJER_END_BYTES);
+
+/* ---- What the tests are written with ---- */
+
+enum { BLOCK = HEECHSTJER_BLOCK_BYTES, GUARD = 33, LAST_BYTE = BLOCK - 1 };
+enum { DONE = HEECHSTJER_FLAG_DONE, SOFT = HEECHSTJER_FLAG_SOFT };
+
+static const char *failed; /* what didn't hold in the running test, or NULL */
+static int failed_line;
+
+#define EXPECT(condition) expect((condition), #condition, __LINE__)
+
+static void expect(bool holds, const char *words, int line)
+{
+    if (!holds && !failed) {
+        failed = words;
+        failed_line = line;
+    }
+}
+
+/* A block between guard bytes. GUARD is odd, and so is the block's address. */
+typedef struct station {
+    uint8_t before[GUARD];
+    uint8_t block[BLOCK];
+    uint8_t after[GUARD];
+} station;
+
+static void fill(station *s, uint8_t byte)
+{
+    memset(s->before, 0xa5, GUARD);
+    memset(s->block, byte, BLOCK);
+    memset(s->after, 0xa5, GUARD);
+}
+
+static bool guards_stand(const station *s)
+{
+    bool stand = true;
+    for (int i = 0; i < GUARD; i++)
+        stand = stand && s->before[i] == 0xa5 && s->after[i] == 0xa5;
+    return stand;
+}
+
+static bool same_block(const station *a, const station *b)
+{
+    return memcmp(a->block, b->block, BLOCK) == 0;
+}
+
+static const uint8_t table_a[] = {
+    0x01, 0x00, 0x07, 0x00, 0x02, 0x00, 0x06, 0x00, 0x08, 0x00,
+    0x01, 0x00, 0x07, 0x00, 0x05, 0x00, 0x0c, 0x00, 0x0c, 0x01,
+    0x0f, 0x00, 0x00,
+};
+
+static const uint8_t empty_table[] = {0x0f, 0x00, 0x00};
+
+/* Writes n rows (C, D, T, rank) and the end field; returns the length. */
+static size_t write_table(uint8_t *out, const uint16_t rows[][4], size_t n)
+{
+    size_t at = 0;
+    for (size_t i = 0; i < n; i++) {
+        out[at++] = 0x01;
+        out[at++] = 0x00;
+        out[at++] = 0x07;
+        for (int k = 0; k < 3; k++) {
+            out[at++] = (uint8_t)(rows[i][k] >> 8);
+            out[at++] = (uint8_t)rows[i][k];
+        }
+        out[at++] = (uint8_t)rows[i][3];
+    }
+    memcpy(out + at, empty_table, sizeof empty_table);
+    return at + sizeof empty_table;
+}
+
+static bool plan_is(heechstjer_plan_answer a, unsigned refusal, size_t from, size_t size, unsigned row)
+{
+    return a.refusal == refusal && a.from == from && a.size == size && a.row == row;
+}
+
+/* A fresh station of a table that is accepted. */
+static station planned(const uint8_t *table, size_t bytes)
+{
+    station s;
+    fill(&s, 0xee);
+    EXPECT(plan_is(heechstjer_plan_in(s.block, table, bytes), 0, 0, 0, 0));
+    return s;
+}
+
+static station planned_rows(const uint16_t rows[][4], size_t n)
+{
+    uint8_t table[HEECHSTJER_MOST_TABLE_BYTES];
+    return planned(table, write_table(table, rows, n));
+}
+
+/* The header's rules for the fields that go together. */
+static bool well_formed(heechstjer_tick_answer a)
+{
+    bool hard = a.runner == HEECHSTJER_RUNNER_HARD;
+    bool firm = a.runner == HEECHSTJER_RUNNER_FIRM;
+    bool closed_hard = a.closed == HEECHSTJER_CLOSED_HARD;
+    bool closed_firm = a.closed == HEECHSTJER_CLOSED_FIRM;
+    bool names_row = a.refusal == 12 || a.refusal == 14;
+    if (a.refusal != 0)
+        return (names_row ? a.row >= 1 && a.row <= 16 : a.row == 0)
+            && a.clock == 0 && a.ticket == 0 && a.runner == 0 && a.runner_row == 0 && a.band == 0
+            && a.closed == 0 && a.closed_row == 0 && a.closed_ticket == 0 && a.closing == 0;
+    return a.row == 0 && a.runner >= 1 && a.runner <= 4
+        && (hard ? a.runner_row >= 1 && a.runner_row <= 16 : a.runner_row == 0)
+        && (hard ? a.band == 1 || a.band == 2 : a.band == 0) && (firm || a.ticket == 0)
+        && a.closed <= 2 && (closed_hard ? a.closed_row >= 1 && a.closed_row <= 16 : a.closed_row == 0)
+        && (closed_firm || a.closed_ticket == 0)
+        && (a.closed == 0 ? a.closing == 0 : a.closing == 1 || a.closing == 2);
+}
+
+/* Whether a tick's answer is this line of document 01's listing; a refusal is "refused 11", "refused 14 row 1". */
+static bool says(heechstjer_tick_answer a, const char *line)
+{
+    char text[80], runner[16], closing[32];
+    if (!well_formed(a))
+        return false;
+    if (a.refusal != 0) {
+        int length = snprintf(text, sizeof text, "refused %u", a.refusal);
+        if (a.row != 0)
+            snprintf(text + length, sizeof text - (size_t)length, " row %u", a.row);
+        return strcmp(text, line) == 0;
+    }
+    if (a.runner == HEECHSTJER_RUNNER_HARD)
+        snprintf(runner, sizeof runner, "%c%u", a.band == HEECHSTJER_BAND_UPPER ? 'U' : 'L', a.runner_row);
+    else if (a.runner == HEECHSTJER_RUNNER_FIRM)
+        snprintf(runner, sizeof runner, "F%lu", (unsigned long)a.ticket);
+    else
+        snprintf(runner, sizeof runner, "%c", a.runner == HEECHSTJER_RUNNER_SOFT ? 'S' : 'I');
+    const char *how = a.closing == HEECHSTJER_CLOSING_DONE ? "done" : "spent";
+    if (a.closed == HEECHSTJER_CLOSED_HARD)
+        snprintf(closing, sizeof closing, "H%u %s", a.closed_row, how);
+    else if (a.closed == HEECHSTJER_CLOSED_FIRM)
+        snprintf(closing, sizeof closing, "F%lu %s", (unsigned long)a.closed_ticket, how);
+    else
+        snprintf(closing, sizeof closing, "-");
+    snprintf(text, sizeof text, "%lu %s %s", (unsigned long)a.clock, runner, closing);
+    return strcmp(text, line) == 0;
+}
+
+/* A tick says the line; a refused one leaves every byte as it was, and no tick writes beyond the block. */
+static bool ticks(station *s, unsigned released, unsigned flags, const char *line)
+{
+    station before = *s;
+    heechstjer_tick_answer a = heechstjer_tick_in(s->block, (uint16_t)released, (uint8_t)flags);
+    return says(a, line) && guards_stand(s) && (a.refusal == 0 ? !same_block(s, &before) : same_block(s, &before));
+}
+
+/* As many ticks with nothing released and no flag. */
+static void let_pass(station *s, int count)
+{
+    for (int i = 0; i < count; i++)
+        EXPECT(heechstjer_tick_in(s->block, 0, 0).refusal == 0);
+}
+
+/* An offer is accepted with this ticket. */
+static bool takes(station *s, unsigned budget, unsigned deadline, uint32_t ticket)
+{
+    heechstjer_offer_answer a = heechstjer_offer_in(s->block, (uint16_t)budget, (uint16_t)deadline);
+    return a.refusal == 0 && a.ticket == ticket && guards_stand(s);
+}
+
+/* An offer is refused with this number and no ticket, and every byte is as it was. */
+static bool turns_down(station *s, unsigned budget, unsigned deadline, unsigned number)
+{
+    station before = *s;
+    heechstjer_offer_answer a = heechstjer_offer_in(s->block, (uint16_t)budget, (uint16_t)deadline);
+    return a.refusal == number && a.ticket == 0 && same_block(s, &before) && guards_stand(s);
+}
+
+/* Table A after the first two ticks of the listing: both rows released, row 1 has run once. */
+static station at_clock_2(void)
+{
+    station s = planned(table_a, sizeof table_a);
+    EXPECT(ticks(&s, 3, 0, "0 L1 -"));
+    EXPECT(ticks(&s, 0, SOFT, "1 S -"));
+    return s;
+}
+
+/* ---- The names ---- */
+
+static void refusals_have_their_numbers(void)
+{
+    static const int numbers[] = {
+        HEECHSTJER_ACCEPTED, HEECHSTJER_REFUSED_CUT, HEECHSTJER_REFUSED_UNKNOWN_TAG, HEECHSTJER_REFUSED_WRONG_LENGTH,
+        HEECHSTJER_REFUSED_AFTER_END, HEECHSTJER_REFUSED_ROW_17, HEECHSTJER_REFUSED_C_ZERO, HEECHSTJER_REFUSED_C_OVER_D,
+        HEECHSTJER_REFUSED_D_OVER_T, HEECHSTJER_REFUSED_BAD_RANK, HEECHSTJER_REFUSED_PASSES_D,
+        HEECHSTJER_REFUSED_NOT_IMAGE, HEECHSTJER_REFUSED_UNKNOWN_ROW, HEECHSTJER_REFUSED_NONE_RAN,
+        HEECHSTJER_REFUSED_NOT_READY, HEECHSTJER_REFUSED_B_ZERO, HEECHSTJER_REFUSED_D_UNDER_B,
+        HEECHSTJER_REFUSED_QUEUE_FULL, HEECHSTJER_REFUSED_ROOM_SHORT, HEECHSTJER_REFUSED_SMALL_OUTPUT,
+        HEECHSTJER_REFUSED_UNKNOWN_FLAG,
+    };
+    for (int i = 0; i <= 20; i++)
+        EXPECT(numbers[i] == i);
+}
+
+static void a_row_bit_is_one_bit_of_16(void)
+{
+    EXPECT(heechstjer_row_bit(0) == 0 && heechstjer_row_bit(17) == 0);
+    EXPECT(heechstjer_row_bit(33) == 0 && heechstjer_row_bit(~0u) == 0);
+    for (unsigned row = 1; row <= 16; row++)
+        EXPECT(heechstjer_row_bit(row) == 1u << (row - 1));
+}
+
+/* ---- Planning ---- */
+
+typedef struct plan_case {
+    const char *name;
+    unsigned refusal;
+    size_t from, size;
+    unsigned row;
+    size_t bytes;
+    uint8_t table[26];
+} plan_case;
+
+#define ROW(c, d, t, rank) 0x01, 0x00, 0x07, 0x00, c, 0x00, d, 0x00, t, rank
+#define END 0x0f, 0x00, 0x00
+
+static const plan_case plan_cases[] = {
+    {"refusal 1: a table of no bytes shows none", 1, 0, 0, 0, 0, {0}},
+    {"refusal 1: two bytes where a field must start", 1, 0, 2, 0, 2, {0x0f, 0x00}},
+    {"refusal 1: no end field shows the empty rest", 1, 10, 0, 0, 10, {ROW(2, 6, 8, 0)}},
+    {"refusal 1: a value that is cut shows its field", 1, 10, 9, 0, 19, {ROW(2, 6, 8, 0), 1, 0, 7, 1, 2, 3, 4, 5, 6}},
+    {"refusal 2: an unknown tag", 2, 10, 3, 0, 14, {ROW(2, 6, 8, 0), 0x02, 0x00, 0x07, 0xff}},
+    {"refusal 2: the tag before the length", 2, 0, 3, 0, 3, {0x00, 0xff, 0xff}},
+    {"refusal 3: a row of length 6", 3, 0, 3, 0, 12, {0x01, 0x00, 0x06, 0, 2, 0, 6, 0, 8, END}},
+    {"refusal 3: an end field of length 1", 3, 0, 3, 0, 4, {0x0f, 0x00, 0x01, 0x00}},
+    {"refusal 3: a length of 0x0107", 3, 0, 3, 0, 3, {0x01, 0x01, 0x07}},
+    {"refusal 4: bytes after the end field", 4, 13, 2, 0, 15, {ROW(2, 6, 8, 0), END, 0x0f, 0x00}},
+    {"refusal 4 before 6", 4, 13, 1, 0, 14, {ROW(0, 6, 8, 0), END, 0x00}},
+    {"refusal 6: C = 0 in row 2", 6, 10, 10, 2, 23, {ROW(2, 6, 8, 0), ROW(0, 6, 8, 1), END}},
+    {"refusal 7: C > D in row 1", 7, 0, 10, 1, 13, {ROW(7, 6, 8, 0), END}},
+    {"refusal 7 before 8", 7, 0, 10, 1, 13, {ROW(10, 9, 8, 9), END}},
+    {"refusal 8: D > T in row 2", 8, 10, 10, 2, 23, {ROW(2, 6, 8, 0), ROW(2, 9, 8, 1), END}},
+    {"refusal 8 before 9", 8, 0, 10, 1, 13, {ROW(2, 9, 8, 9), END}},
+    {"refusal 9: a rank of n", 9, 0, 10, 1, 13, {ROW(2, 6, 8, 1), END}},
+    {"refusal 9: a rank used by an earlier row", 9, 10, 10, 2, 23, {ROW(2, 6, 8, 1), ROW(2, 9, 9, 1), END}},
+    {"refusal 9 in row 1 before 6 in row 2", 9, 0, 10, 1, 23, {ROW(2, 6, 8, 2), ROW(0, 9, 9, 1), END}},
+    {"refusal 6 in row 2 before 10 in row 2", 6, 10, 10, 2, 23, {ROW(2, 4, 4, 0), ROW(0, 4, 4, 1), END}},
+    {"refusal 10: (2,4,4) over (3,4,4)", 10, 10, 10, 2, 23, {ROW(2, 4, 4, 0), ROW(3, 4, 4, 1), END}},
+};
+
+static void plan_refuses(const plan_case *c)
+{
+    station s, before;
+    uint8_t *table = malloc(c->bytes == 0 ? 1 : c->bytes);
+    EXPECT(table != NULL);
+    if (!table)
+        return;
+    memcpy(table, c->table, c->bytes);
+    fill(&s, 0x3c);
+    before = s;
+    heechstjer_plan_answer a = heechstjer_plan_in(s.block, table, c->bytes);
+    EXPECT(plan_is(a, c->refusal, c->from, c->size, c->row));
+    EXPECT(a.from + a.size <= c->bytes);
+    EXPECT(same_block(&s, &before) && guards_stand(&s));
+    EXPECT(memcmp(table, c->table, c->bytes) == 0);
+    free(table);
+}
+
+static void refusal_5_for_a_17th_row(void)
+{
+    uint8_t table[17 * HEECHSTJER_ROW_BYTES + HEECHSTJER_END_BYTES];
+    uint16_t rows[17][4];
+    station s, before;
+    for (uint16_t i = 0; i < 17; i++) {
+        rows[i][0] = 1;
+        rows[i][1] = rows[i][2] = 100;
+        rows[i][3] = (uint16_t)(16 - i);
+    }
+    size_t bytes = write_table(table, (const uint16_t(*)[4])rows, 17);
+    fill(&s, 0x3c);
+    before = s;
+    EXPECT(plan_is(heechstjer_plan_in(s.block, table, bytes), 5, 160, 3, 0));
+    EXPECT(plan_is(heechstjer_plan_in(s.block, table, 163), 5, 160, 3, 0)); /* before 1: its value is cut too */
+    EXPECT(same_block(&s, &before) && guards_stand(&s));
+}
+
+static void refusal_10_for_the_third_row(void)
+{
+    static const uint16_t rows[3][4] = {{3, 6, 6, 0}, {2, 8, 8, 1}, {3, 12, 12, 2}};
+    uint8_t table[HEECHSTJER_MOST_TABLE_BYTES];
+    station s, before;
+    size_t bytes = write_table(table, rows, 3);
+    fill(&s, 0x3c);
+    before = s;
+    EXPECT(plan_is(heechstjer_plan_in(s.block, table, bytes), 10, 20, 10, 3));
+    EXPECT(same_block(&s, &before));
+    planned_rows(rows, 2);
+}
+
+static void tables_of_0_1_and_16_rows_are_planned(void)
+{
+    static const uint16_t largest[1][4] = {{65535, 65535, 65535, 0}};
+    uint16_t rows[16][4];
+    for (uint16_t i = 0; i < 16; i++) {
+        rows[i][0] = 1;
+        rows[i][1] = rows[i][2] = 16;
+        rows[i][3] = (uint16_t)(15 - i);
+    }
+    planned(empty_table, sizeof empty_table);
+    planned_rows(largest, 1);
+    station s = planned_rows((const uint16_t(*)[4])rows, 16);
+    EXPECT(ticks(&s, 0xffff, 0, "0 U16 -")); /* row 16 has R 16, U 0; the others are promoted later */
+    EXPECT(ticks(&s, 0, 0, "1 U15 H16 spent"));
+}
+
+static void planning_writes_all_of_the_block(void)
+{
+    station zeros, ones, run = at_clock_2();
+    uint8_t *raw = malloc(BLOCK); /* never written before: valgrind sees a byte that planning leaves out */
+    fill(&zeros, 0x00);
+    fill(&ones, 0xff);
+    EXPECT(raw != NULL);
+    if (!raw)
+        return;
+    EXPECT(heechstjer_plan_in(zeros.block, table_a, sizeof table_a).refusal == 0);
+    EXPECT(heechstjer_plan_in(ones.block, table_a, sizeof table_a).refusal == 0);
+    EXPECT(heechstjer_plan_in(run.block, table_a, sizeof table_a).refusal == 0);
+    EXPECT(heechstjer_plan_in(raw, table_a, sizeof table_a).refusal == 0);
+    EXPECT(same_block(&zeros, &ones) && same_block(&zeros, &run) && memcmp(raw, zeros.block, BLOCK) == 0);
+    EXPECT(guards_stand(&zeros) && guards_stand(&ones) && guards_stand(&run));
+    free(raw);
+}
+
+static void the_table_may_be_thrown_away(void)
+{
+    uint8_t table[sizeof table_a];
+    station s;
+    memcpy(table, table_a, sizeof table_a);
+    s = planned(table, sizeof table);
+    memset(table, 0xff, sizeof table);
+    EXPECT(ticks(&s, 3, 0, "0 L1 -"));
+}
+
+/* ---- Refusal 11 ---- */
+
+/* The three functions on a block of this many bytes, which starts as the image of a running state: 11 by each, also
+ * where the table, the set, the done flag and the offer are wrong too, and no byte changed. */
+static void length_is_refused(size_t bytes)
+{
+    station s = at_clock_2();
+    size_t held = bytes == 0 ? 1 : bytes;
+    uint8_t *block = malloc(held), *before = malloc(held);
+    EXPECT(block && before);
+    if (block && before) {
+        memset(block, 0, held);
+        memcpy(block, s.block, held < BLOCK ? held : BLOCK);
+        memcpy(before, block, held);
+        EXPECT(plan_is(heechstjer_plan(table_a, sizeof table_a, block, bytes), 11, 0, 0, 0));
+        EXPECT(plan_is(heechstjer_plan(table_a, 5, block, bytes), 11, 0, 0, 0));
+        EXPECT(says(heechstjer_tick(block, bytes, 0, 0), "refused 11"));
+        EXPECT(says(heechstjer_tick(block, bytes, 0xffff, DONE), "refused 11"));
+        EXPECT(says(heechstjer_tick(block, bytes, 0xffff, 4), "refused 20"));
+        heechstjer_offer_answer good = heechstjer_offer(block, bytes, 2, 4);
+        heechstjer_offer_answer bad = heechstjer_offer(block, bytes, 0, 0);
+        EXPECT(good.refusal == 11 && good.ticket == 0 && bad.refusal == 11 && bad.ticket == 0);
+        EXPECT(memcmp(block, before, held) == 0);
+    }
+    free(block);
+    free(before);
+}
+
+static void refusal_11_for_0_bytes(void) { length_is_refused(0); }
+static void refusal_11_for_511_bytes(void) { length_is_refused(511); }
+static void refusal_11_for_513_bytes(void) { length_is_refused(513); }
+
+/* The last byte is one of those that are reserved: with a bit of it set a block is no image. */
+static void refusal_11_for_a_flipped_bit(void)
+{
+    for (int bit = 0; bit < 8; bit++) {
+        station s = at_clock_2();
+        s.block[LAST_BYTE] ^= (uint8_t)(1u << bit);
+        EXPECT(ticks(&s, 0, 0, "refused 11"));
+        EXPECT(ticks(&s, 0xffff, DONE, "refused 11"));
+        EXPECT(ticks(&s, 0, 4, "refused 20"));
+        EXPECT(turns_down(&s, 2, 4, 11));
+        EXPECT(turns_down(&s, 0, 0, 11));
+        s.block[LAST_BYTE] ^= (uint8_t)(1u << bit);
+        EXPECT(ticks(&s, 0, 0, "2 L1 -"));
+    }
+}
+
+/* Every bit in turn: the block is still an image, or tick and offer both say 11; refused, no byte changes. */
+static void every_flipped_bit_is_judged_once(void)
+{
+    station sound = at_clock_2();
+    int refused = 0;
+    EXPECT(takes(&sound, 2, 4, 0));
+    for (int place = 0; place < BLOCK; place++)
+        for (int bit = 0; bit < 8; bit++) {
+            station s = sound, t, damaged;
+            s.block[place] ^= (uint8_t)(1u << bit);
+            damaged = t = s;
+            heechstjer_tick_answer tick = heechstjer_tick_in(s.block, 0, 0);
+            heechstjer_offer_answer offer = heechstjer_offer_in(t.block, 1, 1);
+            EXPECT(well_formed(tick) && guards_stand(&s) && guards_stand(&t));
+            EXPECT((tick.refusal == 11) == (offer.refusal == 11));
+            EXPECT(tick.refusal == 0 || (tick.refusal == 11 && same_block(&s, &damaged)));
+            EXPECT(offer.refusal == 0 || (same_block(&t, &damaged) && offer.ticket == 0));
+            refused += tick.refusal == 11;
+        }
+    EXPECT(refused > 2048);
+}
+
+/* ---- The tick ---- */
+
+static void the_listing_of_document_01(void)
+{
+    station s = planned(table_a, sizeof table_a);
+    EXPECT(ticks(&s, 3, 0, "0 L1 -"));
+    EXPECT(ticks(&s, 0, SOFT, "1 S -"));
+    EXPECT(takes(&s, 2, 4, 0));
+    EXPECT(ticks(&s, 0, 0, "2 F0 -"));
+    EXPECT(ticks(&s, 1, 0, "refused 14 row 1"));
+    EXPECT(ticks(&s, 0, 0, "3 F0 -"));
+    EXPECT(ticks(&s, 0, 0, "4 U1 F0 spent"));
+    EXPECT(ticks(&s, 0, DONE, "5 U2 H1 done"));
+}
+
+static void refusal_12_names_the_lowest_row_above_n(void)
+{
+    station s = planned(table_a, sizeof table_a), none = planned(empty_table, sizeof empty_table);
+    EXPECT(ticks(&s, 0x8008, 0, "refused 12 row 4"));
+    EXPECT(ticks(&s, 0x8003, 0, "refused 12 row 16"));
+    EXPECT(ticks(&s, 0x0004, 0, "refused 12 row 3"));
+    EXPECT(ticks(&none, 0x0001, 0, "refused 12 row 1"));
+    EXPECT(ticks(&s, 0x0003, 0, "0 L1 -"));
+}
+
+static void refusal_13_where_no_job_ran(void)
+{
+    station s = planned(table_a, sizeof table_a);
+    EXPECT(ticks(&s, 0, DONE, "refused 13"));
+    EXPECT(ticks(&s, 0, 0, "0 I -"));
+    EXPECT(ticks(&s, 0, DONE, "refused 13"));
+    EXPECT(ticks(&s, 0, SOFT, "1 S -"));
+    EXPECT(ticks(&s, 0, DONE | SOFT, "refused 13"));
+    EXPECT(ticks(&s, 1, 0, "2 L1 -"));
+    EXPECT(ticks(&s, 0x8000, 0, "refused 12 row 16")); /* refused ticks and offers in between don't count */
+    EXPECT(turns_down(&s, 0, 0, 15));
+    EXPECT(takes(&s, 1, 9, 0));
+    EXPECT(ticks(&s, 0, DONE, "3 F0 H1 done"));
+}
+
+static void refusal_14_until_t_ticks_have_passed(void)
+{
+    station s = planned(table_a, sizeof table_a);
+    EXPECT(ticks(&s, 3, 0, "0 L1 -"));
+    EXPECT(ticks(&s, 0, DONE, "1 L2 H1 done"));
+    EXPECT(ticks(&s, 0, DONE, "2 I H2 done"));
+    let_pass(&s, 4);
+    EXPECT(ticks(&s, 3, 0, "refused 14 row 1"));
+    EXPECT(ticks(&s, 2, 0, "refused 14 row 2"));
+    EXPECT(ticks(&s, 0, 0, "7 I -"));
+    EXPECT(ticks(&s, 3, 0, "refused 14 row 2"));
+    EXPECT(ticks(&s, 1, 0, "8 L1 -"));
+    let_pass(&s, 3);
+    EXPECT(ticks(&s, 2, 0, "12 L2 -"));
+}
+
+static void refusal_20_for_every_other_flag(void)
+{
+    station s = planned(table_a, sizeof table_a);
+    for (unsigned flags = 4; flags <= 255; flags++)
+        EXPECT(ticks(&s, 0, flags, "refused 20"));
+    EXPECT(ticks(&s, 0, 0, "0 I -"));
+}
+
+/* The order 20, 11, 12, 13, 14: that of 20 and 11 is tried with wrong lengths and flipped bits above. */
+static void ticks_are_checked_in_order(void)
+{
+    station s = at_clock_2(); /* soft work ran last, row 1 is not rested */
+    EXPECT(ticks(&s, 0x8001, DONE | 4, "refused 20"));
+    EXPECT(ticks(&s, 0x8001, DONE, "refused 12 row 16"));
+    EXPECT(ticks(&s, 0x0001, DONE, "refused 13"));
+    EXPECT(ticks(&s, 0x0001, 0, "refused 14 row 1"));
+}
+
+static void a_refused_call_was_not_made(void)
+{
+    station s = planned(table_a, sizeof table_a), quiet = planned(table_a, sizeof table_a);
+    for (unsigned t = 0; t < 48; t++) {
+        unsigned due = (t % 8 == 0) + 2u * (t % 12 == 0);
+        heechstjer_tick(s.block, BLOCK, 0xfff0, 0);
+        heechstjer_tick(s.block, BLOCK, 0, 0x80);
+        heechstjer_tick(s.block, BLOCK - 1, 0, 0);
+        heechstjer_offer(s.block, BLOCK, 9, 8);
+        heechstjer_plan(table_a, sizeof table_a - 1, s.block, BLOCK);
+        EXPECT(same_block(&s, &quiet));
+        heechstjer_tick_answer a = heechstjer_tick_in(s.block, (uint16_t)due, 0);
+        heechstjer_tick_answer b = heechstjer_tick_in(quiet.block, (uint16_t)due, 0);
+        EXPECT(a.refusal == 0 && a.clock == t && b.clock == t && a.runner == b.runner && a.runner_row == b.runner_row);
+        EXPECT(a.band == b.band && a.closed == b.closed && a.closed_row == b.closed_row && a.closing == b.closing);
+    }
+}
+
+static void the_five_choices_in_order(void)
+{
+    static const uint16_t rows[3][4] = {{1, 4, 20, 2}, {1, 4, 20, 0}, {1, 9, 20, 1}}; /* U 3, 2, 6 */
+    station s = planned_rows(rows, 3);
+    EXPECT(ticks(&s, 0, 0, "0 I -"));
+    EXPECT(takes(&s, 2, 9, 0));
+    EXPECT(ticks(&s, 7, SOFT, "1 F0 -"));       /* an upload before soft work and unpromoted jobs */
+    EXPECT(ticks(&s, 0, SOFT, "2 F0 -"));
+    EXPECT(ticks(&s, 0, SOFT, "3 U2 F0 spent")); /* promoted at release + U, that tick included */
+    EXPECT(takes(&s, 1, 9, 1));
+    EXPECT(ticks(&s, 0, SOFT, "4 U1 H2 spent")); /* a promoted job before an upload */
+    EXPECT(ticks(&s, 0, SOFT, "5 F1 H1 spent"));
+    EXPECT(ticks(&s, 0, SOFT, "6 S F1 spent")); /* soft work before an unpromoted job */
+    EXPECT(ticks(&s, 0, 0, "7 U3 -"));
+    let_pass(&s, 13);
+    EXPECT(ticks(&s, 7, 0, "21 L2 -"));
+    EXPECT(ticks(&s, 0, 0, "22 L3 H2 spent")); /* the smallest rank, not the smallest row */
+    EXPECT(ticks(&s, 0, 0, "23 L1 H3 spent"));
+    EXPECT(ticks(&s, 0, 0, "24 I H1 spent"));
+}
+
+static void the_smallest_promoted_row_runs(void)
+{
+    static const uint16_t rows[2][4] = {{2, 4, 4, 1}, {2, 4, 4, 0}}; /* U 2 and 0 */
+    station s = planned_rows(rows, 2);
+    EXPECT(ticks(&s, 3, 0, "0 U2 -"));
+    EXPECT(ticks(&s, 0, 0, "1 U2 -"));
+    EXPECT(ticks(&s, 0, 0, "2 U1 H2 spent"));
+    EXPECT(ticks(&s, 0, 0, "3 U1 -"));
+    EXPECT(ticks(&s, 1, 0, "4 L1 H1 spent")); /* closed, rested and released in one call */
+    EXPECT(ticks(&s, 2, 0, "5 U2 -"));
+    EXPECT(ticks(&s, 0, 0, "6 U1 -"));
+    EXPECT(ticks(&s, 0, DONE, "7 U2 H1 done"));
+}
+
+static void done_and_spent(void)
+{
+    station s = planned(empty_table, sizeof empty_table);
+    EXPECT(takes(&s, 2, 2, 0) && takes(&s, 2, 4, 1) && takes(&s, 2, 6, 2));
+    EXPECT(ticks(&s, 0, 0, "0 F0 -"));
+    EXPECT(ticks(&s, 0, 0, "1 F0 -"));
+    EXPECT(ticks(&s, 0, 0, "2 F1 F0 spent")); /* its budget is gone: not complete */
+    EXPECT(ticks(&s, 0, 0, "3 F1 -"));
+    EXPECT(ticks(&s, 0, DONE, "4 F2 F1 done")); /* the same ticks, and told done: complete */
+    EXPECT(ticks(&s, 0, DONE, "5 I F2 done"));  /* told before its budget is gone */
+    EXPECT(ticks(&s, 0, 0, "6 I -"));
+}
+
+static void complete_only_when_closed_as_done(void)
+{
+    station s = planned(empty_table, sizeof empty_table);
+    EXPECT(takes(&s, 1, 1, 0) && takes(&s, 1, 2, 1));
+    heechstjer_tick_answer a = heechstjer_tick_in(s.block, 0, 0);
+    EXPECT(!heechstjer_upload_closed(a, 0) && !heechstjer_upload_complete(a, 0));
+    a = heechstjer_tick_in(s.block, 0, 0);
+    EXPECT(heechstjer_upload_closed(a, 0) && !heechstjer_upload_complete(a, 0) && !heechstjer_upload_closed(a, 1));
+    a = heechstjer_tick_in(s.block, 0, DONE);
+    EXPECT(heechstjer_upload_closed(a, 1) && heechstjer_upload_complete(a, 1));
+    EXPECT(!heechstjer_upload_closed(a, 0) && !heechstjer_upload_complete(a, 0));
+    s = planned(table_a, sizeof table_a);
+    EXPECT(ticks(&s, 3, 0, "0 L1 -"));
+    a = heechstjer_tick_in(s.block, 0, DONE); /* a hard job closed: no ticket, though closed_ticket is 0 */
+    EXPECT(a.closed == HEECHSTJER_CLOSED_HARD && !heechstjer_upload_closed(a, 0) && !heechstjer_upload_complete(a, 0));
+}
+
+/* ---- The offer ---- */
+
+static void the_offers_at_clock_2(void)
+{
+    station s = at_clock_2();
+    EXPECT(turns_down(&s, 3, 4, 18));
+    EXPECT(turns_down(&s, 3, 5, 18));
+    EXPECT(takes(&s, 2, 4, 0));
+    s = at_clock_2();
+    EXPECT(takes(&s, 2, 3, 0));
+}
+
+static void the_offers_of_the_empty_table(void)
+{
+    station s = planned(empty_table, sizeof empty_table);
+    EXPECT(takes(&s, 5, 5, 0));
+    EXPECT(turns_down(&s, 1, 5, 18));
+    EXPECT(takes(&s, 1, 6, 1));
+}
+
+/* Table A, fresh: row 1 may claim 2 ticks from 4, 12, .. on, row 2 may claim 5 from 5, 17, .. on. */
+static void room_to_the_tick(void)
+{
+    static const struct { unsigned deadline, room; } figures[] = {
+        {5, 4}, {6, 3}, {11, 4}, {12, 5}, {13, 5}, {14, 5}, {17, 8}, {18, 8},
+    };
+    for (size_t i = 0; i < sizeof figures / sizeof figures[0]; i++) {
+        station s = planned(table_a, sizeof table_a);
+        EXPECT(turns_down(&s, figures[i].room + 1, figures[i].deadline, 18));
+        EXPECT(takes(&s, figures[i].room, figures[i].deadline, 0));
+    }
+}
+
+static void refusals_15_and_16(void)
+{
+    station s = planned(table_a, sizeof table_a);
+    EXPECT(turns_down(&s, 0, 0, 15));
+    EXPECT(turns_down(&s, 0, 65535, 15));
+    EXPECT(turns_down(&s, 1, 0, 16));
+    EXPECT(turns_down(&s, 65535, 65534, 16));
+}
+
+static void refusal_17_until_the_first_closes(void)
+{
+    station s = planned(empty_table, sizeof empty_table);
+    for (uint32_t i = 0; i < HEECHSTJER_MOST_UPLOADS; i++)
+        EXPECT(takes(&s, 1, 8, i));
+    EXPECT(turns_down(&s, 1, 65535, 17));
+    EXPECT(turns_down(&s, 1, 1, 17)); /* before 18 */
+    EXPECT(turns_down(&s, 2, 1, 16)); /* after 16 */
+    EXPECT(turns_down(&s, 0, 1, 15));
+    EXPECT(ticks(&s, 0, 0, "0 F0 -"));
+    EXPECT(turns_down(&s, 1, 65535, 17)); /* run, but not closed: it keeps its place */
+    EXPECT(ticks(&s, 0, 0, "1 F1 F0 spent"));
+    EXPECT(takes(&s, 1, 65535, 8)); /* the refused offers took no ticket */
+    EXPECT(turns_down(&s, 1, 65535, 17));
+}
+
+/* ---- The block ---- */
+
+static void a_copy_is_the_same_state(void)
+{
+    station s = at_clock_2();
+    uint8_t elsewhere[BLOCK + 2];
+    EXPECT(takes(&s, 2, 4, 0));
+    memcpy(elsewhere + 1, s.block, BLOCK);
+    for (int i = 0; i < 30; i++) {
+        heechstjer_tick_answer a = heechstjer_tick_in(s.block, 0, SOFT);
+        heechstjer_tick_answer b = heechstjer_tick_in(elsewhere + 1, 0, SOFT);
+        EXPECT(a.clock == b.clock && a.runner == b.runner && a.ticket == b.ticket && a.closing == b.closing);
+        EXPECT(memcmp(elsewhere + 1, s.block, BLOCK) == 0);
+    }
+}
+
+static void two_blocks_know_nothing_of_each_other(void)
+{
+    station a = planned(table_a, sizeof table_a), b = planned(empty_table, sizeof empty_table);
+    EXPECT(takes(&b, 3, 3, 0));
+    EXPECT(ticks(&a, 3, 0, "0 L1 -"));
+    EXPECT(ticks(&b, 0, 0, "0 F0 -"));
+    EXPECT(ticks(&a, 0, SOFT, "1 S -"));
+    EXPECT(ticks(&b, 0, DONE, "1 I F0 done"));
+    EXPECT(ticks(&a, 0, DONE, "refused 13"));
+    EXPECT(takes(&a, 2, 4, 0));
+    EXPECT(ticks(&b, 0, 0, "2 I -"));
+    EXPECT(ticks(&a, 0, 0, "2 F0 -"));
+}
+
+/* ---- The promises, counted from the answers ---- */
+
+static uint32_t seed;
+
+static unsigned any_below(unsigned bound)
+{
+    seed = seed * 1664525u + 1013904223u;
+    return (seed >> 8) % bound;
+}
+
+/* Random calls on table A. Every released row is named C times within D ticks or told done, and never more; every
+ * accepted upload as often as its budget within its deadline; the clock counts accepted ticks, tickets count
+ * acceptances; done is said only when told. */
+static void hard_jobs_and_uploads_are_in_time(void)
+{
+    static const unsigned c[2] = {2, 5}, d[2] = {6, 12};
+    enum { CALLS = 20000, UPLOADS = 32 };
+    struct { bool live; unsigned due, left; } job[2] = {{false, 0, 0}, {false, 0, 0}}, upload[UPLOADS];
+    station s = planned(table_a, sizeof table_a);
+    unsigned now = 0, accepted = 0, offers_refused = 0, ticks_refused = 0;
+    memset(upload, 0, sizeof upload);
+    seed = 1;
+    for (int call = 0; call < CALLS; call++) {
+        if (any_below(4) == 0) {
+            unsigned budget = 1 + any_below(4), deadline = budget + any_below(30);
+            heechstjer_offer_answer o = heechstjer_offer_in(s.block, (uint16_t)budget, (uint16_t)deadline);
+            EXPECT(o.refusal == 0 || o.refusal == 17 || o.refusal == 18);
+            offers_refused += o.refusal != 0;
+            if (o.refusal == 0) {
+                EXPECT(o.ticket == accepted);
+                upload[accepted % UPLOADS].live = true;
+                upload[accepted % UPLOADS].left = budget;
+                upload[accepted % UPLOADS].due = now + deadline;
+                accepted++;
+            }
+            continue;
+        }
+        unsigned released = any_below(3) == 0 ? any_below(4) : 0, flags = any_below(4);
+        station before = s;
+        heechstjer_tick_answer a = heechstjer_tick_in(s.block, (uint16_t)released, (uint8_t)flags);
+        EXPECT(well_formed(a));
+        if (a.refusal != 0) {
+            EXPECT((a.refusal == 13 || a.refusal == 14) && same_block(&s, &before));
+            ticks_refused++;
+            continue;
+        }
+        EXPECT(a.clock == now);
+        EXPECT((a.closing == HEECHSTJER_CLOSING_DONE) == ((flags & DONE) != 0));
+        if (a.closed == HEECHSTJER_CLOSED_HARD) {
+            EXPECT(job[a.closed_row - 1].live && (flags & DONE || job[a.closed_row - 1].left == 0));
+            job[a.closed_row - 1].live = false;
+        } else if (a.closed == HEECHSTJER_CLOSED_FIRM) {
+            unsigned i = a.closed_ticket % UPLOADS;
+            EXPECT(upload[i].live && (flags & DONE || upload[i].left == 0));
+            upload[i].live = false;
+        }
+        for (int row = 0; row < 2; row++)
+            if (released >> row & 1) {
+                EXPECT(!job[row].live);
+                job[row].live = true;
+                job[row].left = c[row];
+                job[row].due = now + d[row];
+            }
+        if (a.runner == HEECHSTJER_RUNNER_HARD) {
+            EXPECT(job[a.runner_row - 1].live && job[a.runner_row - 1].left > 0);
+            job[a.runner_row - 1].left--;
+        } else if (a.runner == HEECHSTJER_RUNNER_FIRM) {
+            EXPECT(upload[a.ticket % UPLOADS].live && upload[a.ticket % UPLOADS].left > 0);
+            upload[a.ticket % UPLOADS].left--;
+        }
+        now++;
+        for (int row = 0; row < 2; row++)
+            EXPECT(!job[row].live || job[row].left == 0 || now < job[row].due);
+        for (int i = 0; i < UPLOADS; i++)
+            EXPECT(!upload[i].live || upload[i].left == 0 || now < upload[i].due);
+    }
+    EXPECT(accepted > 500 && offers_refused > 500 && ticks_refused > 500 && now > 5000);
+    EXPECT(guards_stand(&s));
+}
+
+/* ---- The run ---- */
+
+static const struct { const char *name; void (*run)(void); } tests[] = {
+    {"every refusal has document 01's number", refusals_have_their_numbers},
+    {"a row's bit is one of 16", a_row_bit_is_one_bit_of_16},
+    {"tables of 0, 1 and 16 rows are planned", tables_of_0_1_and_16_rows_are_planned},
+    {"planning writes all 512 bytes, by the table alone", planning_writes_all_of_the_block},
+    {"the table may be thrown away once planned", the_table_may_be_thrown_away},
+    {"refusal 5: a 17th row", refusal_5_for_a_17th_row},
+    {"refusal 10: the third row of document 01's figures", refusal_10_for_the_third_row},
+    {"refusal 11: a block of 0 bytes", refusal_11_for_0_bytes},
+    {"refusal 11: a block of 511 bytes", refusal_11_for_511_bytes},
+    {"refusal 11: a block of 513 bytes", refusal_11_for_513_bytes},
+    {"refusal 11: a flipped bit in the reserved part", refusal_11_for_a_flipped_bit},
+    {"every flipped bit is judged alike by tick and offer", every_flipped_bit_is_judged_once},
+    {"document 01's listing", the_listing_of_document_01},
+    {"refusal 12: the lowest row above n", refusal_12_names_the_lowest_row_above_n},
+    {"refusal 13: done, and no job ran", refusal_13_where_no_job_ran},
+    {"refusal 14: until T ticks have passed", refusal_14_until_t_ticks_have_passed},
+    {"refusal 20: every other flag", refusal_20_for_every_other_flag},
+    {"the order of a tick's checks", ticks_are_checked_in_order},
+    {"a refused call is as if not made", a_refused_call_was_not_made},
+    {"the five choices, in order", the_five_choices_in_order},
+    {"the smallest promoted row runs", the_smallest_promoted_row_runs},
+    {"done and spent", done_and_spent},
+    {"an upload is complete only when closed as done", complete_only_when_closed_as_done},
+    {"refusal 18: document 01's offers at clock 2", the_offers_at_clock_2},
+    {"refusal 18: document 01's offers of the empty table", the_offers_of_the_empty_table},
+    {"refusal 18: room to the tick", room_to_the_tick},
+    {"refusals 15 and 16", refusals_15_and_16},
+    {"refusal 17: eight queued, until the first closes", refusal_17_until_the_first_closes},
+    {"a copy of a block is the same state", a_copy_is_the_same_state},
+    {"two blocks know nothing of each other", two_blocks_know_nothing_of_each_other},
+    {"hard jobs and uploads are in time, counted from the answers", hard_jobs_and_uploads_are_in_time},
+};
+
+static int failures;
+
+static void report(const char *name)
+{
+    if (failed)
+        printf("FAILED %s: line %d: %s\n", name, failed_line, failed);
+    else
+        printf("ok %s\n", name);
+    failures += failed != NULL;
+    failed = NULL;
+}
+
+int main(void)
+{
+    for (size_t i = 0; i < sizeof plan_cases / sizeof plan_cases[0]; i++) {
+        plan_refuses(&plan_cases[i]);
+        report(plan_cases[i].name);
+    }
+    for (size_t i = 0; i < sizeof tests / sizeof tests[0]; i++) {
+        tests[i].run();
+        report(tests[i].name);
+    }
+    printf("%d failed\n", failures);
+    return failures == 0 ? 0 : 1;
+}
