@@ -10,10 +10,12 @@ if [ "${1:-}" != count ]; then
 fi
 # counted WORKLOAD ours|plain FUNCTION: instructions a tick, and branches that valgrind's model of a processor foretells wrongly, in FUNCTION and what it calls.
 counted() {
-    valgrind --tool=callgrind --branch-sim=yes --callgrind-out-file=/dev/null --toggle-collect="$3" target/bench/tick count "$1" "$2" 2>&1 |
-        sed -n 's/.*Collected : //p' | awk '{ printf "%.0f instructions, %.1f branches mispredicted", $1 / 100000, ($3 + $5) / 100000 }'
+    valgrind --tool=callgrind --branch-sim=yes --callgrind-out-file=/dev/null --toggle-collect="$3" target/bench/tick count "$1" "$2" \
+        > target/bench/tick.out 2>&1 || { cat target/bench/tick.out; exit 1; }
+    sed -n 's/.*Collected : //p' target/bench/tick.out |
+        awk -v work="$1" -v name="$2" '{ printf "%-5s  %-5s %.0f instructions, %.1f branches mispredicted a tick\n", work, name, $1 / 100000, ($3 + $5) / 100000 }'
 }
 for work in light firm heavy; do
-    printf '%-5s  ours  %s a tick\n' "$work" "$(counted "$work" ours heechstjer_laps)"
-    printf '%-5s  plain %s a tick\n' "$work" "$(counted "$work" plain plain_laps)"
+    counted "$work" ours heechstjer_laps
+    counted "$work" plain plain_laps
 done
