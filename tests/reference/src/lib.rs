@@ -5,6 +5,7 @@
 //! clock appears only where a number is shown. Sums are written out term by
 //! term.
 
+pub mod block;
 pub mod event;
 pub mod programs;
 pub mod random;
