@@ -124,6 +124,7 @@ impl Pair {
         rows.filter(|(index, hard)| releases_row(released, index + 1) && slept(hard)).count() as u64
     }
 
+    /// An offer on both; whether it was accepted.
     fn offer(&mut self, budget: u16, deadline: u16) -> bool {
         let answer = library::offer(self.lent.block(), budget, deadline);
         let want = expected::offer(Some(&mut self.station), budget, deadline);

@@ -24,31 +24,28 @@ pub fn case(seed: u64) -> Counts {
     pair.counts
 }
 
-/// The same station after a long life: it had slept for nearly 2^32 ticks before
-/// all this, and nearly 2^32 uploads had come and gone. Some of the rows that
-/// are rested have slept through one rollover of the clock, so that the clock
-/// alone would find them too early.
+/// The same station after a long life: it had slept for nearly 2^33 ticks before
+/// all this, and nearly 2^33 uploads had come and gone. Most rows that are rested
+/// have slept for a round of the clock, so that the clock alone would find them
+/// too early.
 pub fn made_late(random: &mut Random, mut station: Station) -> Station {
-    let before = random.between(0, 300);
-    let sleep = ROLL_OVER - u128::from(before).min(ROLL_OVER) - station.time % ROLL_OVER;
-    station.time += sleep + ROLL_OVER;
-    let uploads = ROLL_OVER - u128::from(random.between(0, 12));
-    station.acceptances += uploads;
-    for job in &mut station.firm {
-        job.number += uploads;
-    }
+    let time = 2 * ROLL_OVER - u128::from(random.between(0, 300));
+    let acceptances = 2 * ROLL_OVER - u128::from(random.between(0, 12));
+    let slept = time - station.time;
     for hard in &mut station.rows {
-        hard.last_release = hard.last_release.map(|release| release + sleep + ROLL_OVER);
+        hard.last_release = hard.last_release.map(|release| release + slept);
         if let Some(job) = &mut hard.open {
-            job.release += sleep + ROLL_OVER;
-        } else if hard.rested(station.time) && !random.once_in(4) {
-            let period = u64::from(hard.row.t);
-            let age = ROLL_OVER + u128::from(random.below(period + 2));
-            hard.last_release = Some(station.time - age);
+            job.release += slept;
+        } else if hard.rested(time) && !random.once_in(4) {
+            let age = ROLL_OVER + u128::from(random.below(u64::from(hard.row.t) + 2));
+            hard.last_release = Some(time - age);
         }
+    }
+    for job in &mut station.firm {
+        job.number += acceptances - station.acceptances;
     }
     if station.last == Last::None {
         station.last = Last::NoJob;
     }
-    station
+    Station { time, acceptances, ..station }
 }
