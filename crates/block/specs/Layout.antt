@@ -13,9 +13,11 @@ use Rattle.block.specs.Words.{bytesAt, four, joined, one, quad, quadsAt,
 
 -- read
 
+-- what no tick changes
 abbrev pub rowsAt : List ℕ → Rows
 rowsAt b = record { n = entry b 0; c = wordsAt b 16 16; d = wordsAt b 48 16; t = wordsAt b 80 16; u = wordsAt b 112 16; rank = bytesAt b 240 16 }
 
+-- what ticks and offers change
 abbrev pub stateAt : List ℕ → State
 stateAt b = record {
   clock = quad b 4;
@@ -61,6 +63,7 @@ queueOf s = joined two (s .budget) ++ (joined two (s .used) ++ joined four (s .t
 unfoldable pub reserved : List ℕ
 reserved = replicate 192 0
 
+-- the whole, one part after the other
 unfoldable pub imageOf : Rows → State → List ℕ
 imageOf rows s = headOf (rows .n) s ++ (tableOf rows ++ (jobsOf s ++ (joined one (rows .rank) ++ (queueOf s ++ reserved))))
 
@@ -87,5 +90,6 @@ encodedOn b rows s = cond (eqb (length b) 512) (imageOf rows s) b
 unfoldable pub stateOn : List ℕ → State → List ℕ
 stateOn b s = sets (sets (sets (sets b 1 (marksOf s)) 4 (numbersOf s)) 144 (jobsOf s)) 256 (queueOf s)
 
+-- the same on a block of 512 bytes; any other list stays
 unfoldable pub writtenOn : List ℕ → State → List ℕ
 writtenOn b s = cond (eqb (length b) 512) (stateOn b s) b

@@ -8,9 +8,11 @@ use Rattle.dispatch.specs.Meaning.{entry, rowsFrom}
 
 -- read
 
+-- two bytes
 abbrev pub word : List ℕ → ℕ → ℕ
 word b at = entry b at + entry b (at + 1) * 256
 
+-- four bytes
 abbrev pub quad : List ℕ → ℕ → ℕ
 quad b at = word b at + word b (at + 2) * 65536
 
@@ -18,20 +20,25 @@ quad b at = word b at + word b (at + 2) * 65536
 abbrev pub bytesAt : List ℕ → ℕ → ℕ → List ℕ
 bytesAt b at n = rowsFrom (λ i. entry b (at + i)) 0 n
 
+-- of two bytes each
 abbrev pub wordsAt : List ℕ → ℕ → ℕ → List ℕ
 wordsAt b at n = rowsFrom (λ i. word b (at + 2 * i)) 0 n
 
+-- of four bytes each
 abbrev pub quadsAt : List ℕ → ℕ → ℕ → List ℕ
 quadsAt b at n = rowsFrom (λ i. quad b (at + 4 * i)) 0 n
 
 -- the bytes
 
+-- of a number below 256
 abbrev pub one : ℕ → List ℕ
 one x = x ∷ []
 
+-- of a number below 2^16
 abbrev pub two : ℕ → List ℕ
 two x = x % 256 ∷ x / 256 ∷ []
 
+-- of a number below 2^32
 abbrev pub four : ℕ → List ℕ
 four x = two (x % 65536) ++ two (x / 65536)
 

@@ -30,47 +30,58 @@ pub record Out (A : Type 0) : Type 0 where
   pub answer : A
   pub block : List ℕ
 
+-- this answer, and this block
 abbrev pub giving : {A : Type 0} → A → List ℕ → Out A
 giving a b = record { answer = a; block = b }
 
 -- planning: 11 for the length only, then the file
 
+-- an accepted file leaves the image of its fresh state
 abbrev pub planOf : Reading → List ℕ → Out PlanAnswer
 planOf (read-as ps) b = giving donePlan (imageOf (rowsFor ps) (freshIn (rowsFor ps .n)))
 planOf (unread why from size) b = giving (refusedPlan (number why) from size) b
 
+-- the whole of planning
 unfoldable pub planBlock : List ℕ → List ℕ → Out PlanAnswer
 planBlock file b = cond (eqb (length b) 512) (planOf (read file) b) (giving (refusedPlan (number not-image) 0 0) b)
 
 -- the tick: 20, 11, then 12, 13, 14
 
+-- a stepped tick leaves the state after it
 abbrev pub verdictOn : Verdict → State → List ℕ → Out TickAnswer
 verdictOn (Stepped a) s b = giving (steppedTick a) (writtenOn b s)
 verdictOn (Unknown k) s b = giving (refusedTick (number unknown-row) (rowNumber k)) b
 verdictOn NoneRan s b = giving (refusedTick (number none-ran) 0) b
 verdictOn (NotReady k) s b = giving (refusedTick (number not-ready) (rowNumber k)) b
 
+-- the same of what the dispatcher gives
 abbrev pub tickedOn : Ticked → List ℕ → Out TickAnswer
 tickedOn r b = verdictOn (r .verdict) (r .state) b
 
+-- a block that is no image is refused 11
 abbrev pub tickDecoded : Decoded → List ℕ → ℕ → ℕ → Out TickAnswer
 tickDecoded x b set flags =
     cond (x .ok) (tickedOn (tickIn (x .rows) (x .state) set (doneFlag flags) (softFlag flags)) b) (giving (refusedTick (number not-image) 0) b)
 
+-- the whole tick: the flags first
 unfoldable pub tickBlock : List ℕ → ℕ → ℕ → Out TickAnswer
 tickBlock b set flags = cond (otherFlag flags) (giving (refusedTick (number unknown-flag) 0) b) (tickDecoded (decodedOf b) b set flags)
 
 -- the offer: 11, then 15, 16, 17, 18
 
+-- an accepted offer leaves the state after it
 abbrev pub offeredOn : Offered → State → List ℕ → Out OfferAnswer
 offeredOn (Ticket t) s b = giving (takenOffer t) (writtenOn b s)
 offeredOn (Refused n) s b = giving (refusedOffer n) b
 
+-- the same of what the dispatcher gives
 abbrev pub madeOn : OfferMade → List ℕ → Out OfferAnswer
 madeOn r b = offeredOn (r .offered) (r .state) b
 
+-- a block that is no image is refused 11
 abbrev pub offerDecoded : Decoded → List ℕ → ℕ → ℕ → Out OfferAnswer
 offerDecoded x b B d = cond (x .ok) (madeOn (offerMade (x .rows) (x .state) B d) b) (giving (refusedOffer (number not-image)) b)
 
+-- the whole offer
 unfoldable pub offerBlock : List ℕ → ℕ → ℕ → Out OfferAnswer
 offerBlock b B d = offerDecoded (decodedOf b) b B d

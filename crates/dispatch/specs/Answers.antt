@@ -14,16 +14,19 @@ use Rattle.dispatch.specs.declared.Answer.{Answer}
 use Rattle.dispatch.specs.declared.Verdict.{Verdict}
 use Rattle.dispatch.specs.declared.Verdict.the-variants.{Stepped, Unknown, NoneRan, NotReady}
 
+-- the band
 abbrev pub bandOf : rules.Band → Band
 bandOf rules.upper = Upper
 bandOf rules.lower = Lower
 
+-- who runs
 abbrev pub runnerOf : rules.Runner → Runner
 runnerOf (rules.hard i band) = Hard i (bandOf band)
 runnerOf (rules.firm t) = Firm t
 runnerOf rules.soft = Soft
 runnerOf rules.idle = Idle
 
+-- what closed
 abbrev pub closingOf : rules.Closing → Closing
 closingOf rules.nothing = Nothing
 closingOf (rules.hard-job i rules.done) = HardDone i
@@ -31,6 +34,7 @@ closingOf (rules.hard-job i rules.spent) = HardSpent i
 closingOf (rules.firm-job t rules.done) = FirmDone t
 closingOf (rules.firm-job t rules.spent) = FirmSpent t
 
+-- the whole answer
 abbrev pub answerOf : rules.Answer → Answer
 answerOf a = record { clock = a .at; runner = runnerOf (a .runner); closing = closingOf (a .closing) }
 

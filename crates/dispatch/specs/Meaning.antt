@@ -26,6 +26,7 @@ entry a i = getD a i 0
 abbrev pub wrapped : ℕ → ℕ → ℕ
 wrapped clock stamp = (clock + (2 ^ 32 - stamp)) % 2 ^ 32
 
+-- the row at i
 abbrev pub rowAt : Rows → ℕ → Row
 rowAt rows i = record { C = entry (rows .c) i; D = entry (rows .d) i; T = entry (rows .t) i; rank = entry (rows .rank) i }
 
@@ -33,18 +34,23 @@ rowAt rows i = record { C = entry (rows .c) i; D = entry (rows .d) i; T = entry 
 abbrev pub ageAt : Rows → State → ℕ → ℕ
 ageAt rows s i = cond (bit (s .rested) i) (hold (rowAt rows i)) (wrapped (s .clock) (entry (s .stamp) i))
 
+-- the job of the row at i
 abbrev pub jobAt : State → ℕ → Job
 jobAt s i = cond (bit (s .«open») i) (opened (entry (s .run) i)) closed
 
+-- the row in force at i
 abbrev pub slotAt : Rows → State → ℕ → Slot
 slotAt rows s i = record { row = rowAt rows i; U = entry (rows .u) i; age = ageAt rows s i; job = jobAt s i }
 
+-- the firm job at j
 abbrev pub firmAt : State → ℕ → Firm
 firmAt s j = record { ticket = entry (s .ticket) j; budget = entry (s .budget) j; run = entry (s .used) j }
 
+-- all rows in force
 abbrev pub slotsOf : Rows → State → List Slot
 slotsOf rows s = rowsFrom (slotAt rows s) 0 (rows .n)
 
+-- the queue
 abbrev pub firmsOf : State → List Firm
 firmsOf s = rowsFrom (firmAt s) 0 (s .count)
 
@@ -52,6 +58,7 @@ firmsOf s = rowsFrom (firmAt s) 0 (s .count)
 abbrev pub lastOf : State → Last
 lastOf s = cond (ltb (s .last) 16) (row-at (s .last)) (cond (eqb (s .last) 16) (firm-of (entry (s .ticket) 0)) nobody)
 
+-- the station
 unfoldable pub stationOf : Rows → State → Station
 stationOf rows s = record { clock = s .clock; slots = slotsOf rows s; firms = firmsOf s; next = s .next; last = lastOf s }
 
@@ -89,6 +96,7 @@ pub record QueueKept (count : ℕ) (budget used ticket : List ℕ) : Type 0 wher
   pub tickets : length ticket ≡ 8
   pub past : (j : ℕ) → count ≤ j → (entry ticket j ≡ 0) × (entry budget j ≡ 0) × (entry used j ≡ 0)
 
+-- all of that
 pub record Kept (rows : Rows) (s : State) : Type 0 where
   pub table : TableKept rows
   pub times : TimesKept rows (s .clock) (s .rested) (s .stamp)

@@ -10,6 +10,7 @@ use Rattle.dispatch.specs.declared.OfferMade.{OfferMade}
 use Rattle.dispatch.specs.declared.Rows.{Rows}
 use Rattle.dispatch.specs.declared.State.{State}
 
+-- a ticket, or the number of a refusal
 abbrev pub offeredOf : rules.Offered → Offered
 offeredOf (rules.accepted st t) = Ticket t
 offeredOf (rules.no-offer why) = Refused (number why)

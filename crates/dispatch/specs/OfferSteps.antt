@@ -25,26 +25,32 @@ openOf C run U age d = min (C - run) (d - (U - age))
 abbrev pub futureAt : ℕ → ℕ → ℕ → ℕ → ℕ → ℕ → ℕ
 futureAt C T wait U d k = min C (d - (wait + U + k * T))
 
+-- all future jobs
 abbrev pub futureOf : ℕ → ℕ → ℕ → ℕ → ℕ → ℕ
 futureOf C T wait U d = sum d (futureAt C T wait U d)
 
+-- the open job and the future ones
 abbrev pub rowClaim : Bool → ℕ → ℕ → ℕ → ℕ → ℕ → ℕ → ℕ
 rowClaim o C T U run age d = cond o (openOf C run U age d) 0 + futureOf C T (T - age) U d
 
 -- the rows; those from 16 on are not there
 
+-- of the row at i
 abbrev pub claimAt : Rows → State → ℕ → ℕ → ℕ
 claimAt rows s d i =
     rowClaim (bit (s .«open») i) (entry (rows .c) i) (entry (rows .t) i) (entry (rows .u) i) (entry (s .run) i) (ageAt rows s i) d
 
+-- of all rows
 unfoldable pub claimsOf : Rows → State → ℕ → ℕ
 claimsOf rows s d = sum (min (rows .n) 16) (claimAt rows s d)
 
 -- the firm jobs
 
+-- what the job at i has still to run
 abbrev pub unrunAt : State → ℕ → ℕ
 unrunAt s i = entry (s .budget) i - entry (s .used) i
 
+-- of all of them
 unfoldable pub unrunOf : State → ℕ
 unrunOf s = sum (s .count) (unrunAt s)
 
@@ -66,9 +72,11 @@ queuedIn s B = record {
 
 -- the offer
 
+-- a refusal leaves the state as it was
 abbrev pub refusedBy : ℕ → State → OfferMade
 refusedBy number s = record { offered = Refused number; state = s }
 
+-- an accepted offer is queued
 abbrev pub ticketFor : State → ℕ → OfferMade
 ticketFor s B = record { offered = Ticket (s .next); state = queuedIn s B }
 

@@ -6,6 +6,7 @@ use Rattle.table.specs.declared.Table.{Table}
 use Rattle.table.specs.declared.Plan.{Plan}
 use Rattle.dispatch.specs.declared.Rows.{Rows}
 
+-- of a table and a plan in memory
 abbrev pub plannedRows : Table → Plan → Rows
 plannedRows tb p = record { n = tb .n; c = tb .c; d = tb .d; t = tb .t; u = p .u; rank = tb .rank }
 

@@ -45,6 +45,7 @@ marked set v i x = cond (bit set i) v x
 abbrev pub agedAt : List ℕ → List ℕ → ℕ → ℕ → Bool
 agedAt ticks stamp clock i = leb (entry ticks i) (wrapped clock (entry stamp i))
 
+-- no row yet: a rank above all
 abbrev pub noBest : Best
 noBest = record { rank = 256; row = 16 }
 
@@ -52,5 +53,6 @@ noBest = record { rank = 256; row = 16 }
 abbrev pub better : ℕ → ℕ → Best → Best
 better rank i best = cond (ltb rank (best .rank)) (record { rank = rank; row = i }) best
 
+-- the row at i, if it is in the set
 abbrev pub lowAt : List ℕ → ℕ → ℕ → Best → Best
 lowAt rank set i best = cond (bit set i) (better (entry rank i) i best) best

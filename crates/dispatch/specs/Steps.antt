@@ -52,6 +52,7 @@ reworked s o last run count budget used ticket = record {
 
 -- 1. Close
 
+-- what closes: the last runner, as done with the flag, else as spent if it is fully run
 abbrev pub closingIn : Rows → State → Bool → Closing
 closingIn rows s d =
     cond (ltb (s .last) 16)
@@ -60,6 +61,7 @@ closingIn rows s d =
     (cond d (FirmDone (entry (s .ticket) 0)) (cond (ltb (entry (s .used) 0) (entry (s .budget) 0)) Nothing (FirmSpent (entry (s .ticket) 0))))
     Nothing)
 
+-- the row at i without its job
 abbrev pub shutRow : State → ℕ → State
 shutRow s i =
     cond (ltb i 16) (reworked s (bitAnd (s .«open») (others (2 ^ i))) (s .last) (set (s .run) i 0) (s .count) (s .budget) (s .used) (s .ticket)) s
@@ -68,9 +70,11 @@ shutRow s i =
 abbrev pub shifted : List ℕ → List ℕ
 shifted a = entry a 1 ∷ entry a 2 ∷ entry a 3 ∷ entry a 4 ∷ entry a 5 ∷ entry a 6 ∷ entry a 7 ∷ 0 ∷ []
 
+-- the queue without its first job
 abbrev pub popped : State → State
 popped s = reworked s (s .«open») (s .last) (s .run) (s .count - 1) (shifted (s .budget)) (shifted (s .used)) (shifted (s .ticket))
 
+-- the state after that closing
 abbrev pub closedBy : State → Closing → State
 closedBy s Nothing = s
 closedBy s (HardDone i) = shutRow s i
@@ -80,17 +84,21 @@ closedBy s (FirmSpent t) = popped s
 
 -- 2. Release
 
+-- each row of the set has a job, stamped now
 abbrev pub releasedBy : State → ℕ → State
 releasedBy s set = retimed s (s .clock) (bitOr (s .«open») set) (bitAnd (s .rested) (others set)) (upto (marked set (s .clock)) 16 (s .stamp))
 
 -- 3. Choose
 
+-- open, and rested or U ticks old
 abbrev pub promotedRows : Rows → State → ℕ
 promotedRows rows s = bitAnd (s .«open») (bitOr (s .rested) (rowsThat (agedAt (rows .u) (s .stamp) (s .clock)) 16))
 
+-- the best of the open rows, or idle
 abbrev pub lowerOf : Best → Runner
 lowerOf best = cond (ltb (best .rank) 256) (Hard (best .row) Lower) Idle
 
+-- the first that exists
 abbrev pub chosenIn : Rows → State → Bool → Runner
 chosenIn rows s soft =
     let upper = least (promotedRows rows s) in
@@ -100,24 +108,30 @@ chosenIn rows s soft =
 
 -- 4. Run
 
+-- one more, as far as the width goes
 abbrev pub bumped : ℕ → ℕ
 bumped x = cond (ltb x 65535) (x + 1) x
 
+-- the job of the row at i ran
 abbrev pub ranRow : State → ℕ → State
 ranRow s i = cond (ltb i 16) (reworked s (s .«open») i (set (s .run) i (bumped (entry (s .run) i))) (s .count) (s .budget) (s .used) (s .ticket)) s
 
+-- the first firm job ran
 abbrev pub ranFirst : State → State
 ranFirst s = reworked s (s .«open») 16 (s .run) (s .count) (s .budget) (set (s .used) 0 (bumped (entry (s .used) 0))) (s .ticket)
 
+-- no job ran
 abbrev pub ranNone : State → State
 ranNone s = reworked s (s .«open») 17 (s .run) (s .count) (s .budget) (s .used) (s .ticket)
 
+-- the runner ran
 abbrev pub ranIn : State → Runner → State
 ranIn s (Hard i band) = ranRow s i
 ranIn s (Firm t) = ranFirst s
 ranIn s Soft = ranNone s
 ranIn s Idle = ranNone s
 
+-- one more, modulo 2^32
 abbrev pub nextClock : State → ℕ
 nextClock s = (s .clock + 1) % 2 ^ 32
 
@@ -125,6 +139,7 @@ nextClock s = (s .clock + 1) % 2 ^ 32
 abbrev pub restedNext : Rows → State → ℕ
 restedNext rows s = bitOr (s .rested) (bitAnd (rowsThat (agedAt (rows .t) (s .stamp) (nextClock s)) 16) (known (rows .n)))
 
+-- the clock advances: marks and stamps follow
 abbrev pub advanced : Rows → State → State
 advanced rows s = retimed s (nextClock s) (s .«open») (restedNext rows s) (upto (marked (restedNext rows s) 0) 16 (s .stamp))
 

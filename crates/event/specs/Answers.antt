@@ -19,5 +19,6 @@ placeAfter at (event call size) = at + size
 placeAfter at no-more = at
 placeAfter at (bad-event why size) = at
 
+-- a field that fails a check, as an event
 abbrev pub refusedField : BadField → Event
 refusedField b = bad-event (b .why) (b .size)

@@ -14,17 +14,19 @@ use Rattle.rules.specs.Tick.{done, hard, hard-job, lower, run, soft, spe
 use Rattle.rules.specs.Calls.{after, offer-call, tick-call}
 use Rattle.rules.specs.Figures.{AllHold, Asked, Figures, Found, R-and-U, atClock2, block-of, call-on, event-of, file-of, output-of, passes, ran, refuses, row, shows, stationA, tableA, ticket, values}
 
--- a table's file shows its middle part; an event shows the first part of the bytes left
-
+-- a table file refused with n, which shows its middle part
 abbrev pub file-shows : ℕ → List ℕ → List ℕ → List ℕ → Asked × Found
 file-shows n before part after = (file-of (before ++ (part ++ after)), shows n (length before) (length part) part)
 
+-- an event refused with n, which shows the first part of the bytes left
 abbrev pub event-shows : ℕ → List ℕ → List ℕ → Asked × Found
 event-shows n part after = (event-of (part ++ after), shows n 0 (length part) part)
 
+-- the ten bytes of a row
 abbrev pub rowField : ℕ → ℕ → ℕ → ℕ → List ℕ
 rowField C D T rank = rowBytes (row C D T rank)
 
+-- the end field
 abbrev pub endField : List ℕ
 endField = 0x0f ∷ 0x00 ∷ 0x00 ∷ []
 
@@ -37,17 +39,18 @@ zeroRows (suc n) = rowField 0 0 0 0 ++ zeroRows n
 abbrev pub fullQueue : Station
 fullQueue = after (freshStation []) (replicate 8 (offer-call 1 8))
 
--- a station whose table is the first row of A, planned with the bound R; and one with an empty table, and firm jobs of a ticket, a budget and ticks run
-
+-- the first row of A alone, planned with the bound R
 abbrev pub oneRow : ℕ → ℕ → Job → Last → Station
 oneRow R age job last =
     let slot = withJob (freshSlot (record { row = row 2 6 8 0; R = R; rounds = 1 })) age job in
     record { clock = 100; slots = slot ∷ []; firms = []; next = 0; last = last }
 
+-- an empty table, with firm jobs of a ticket, a budget and ticks run
 abbrev pub queueOf : List (ℕ × ℕ × ℕ) → ℕ → Last → Station
 queueOf jobs next last =
     record { clock = 100; slots = []; firms = map (λ j. record { ticket = j .0; budget = j .1; run = j .2 }) jobs; next = next; last = last }
 
+-- by number, each asked and found
 abbrev pub refusals : Figures
 refusals =
     -- 1: no end field; two bytes left; a value cut. Asked before the tag, before the flags, and before 6 of any row
@@ -152,6 +155,7 @@ given (refuses n row) = n
 given (shows n from size bytes) = n
 given passes = 0
 
+-- the examples hold, and no number is left out
 pub record EveryRefusal : Type 0 where
   pub all-hold : AllHold refusals
   -- of 1 to 20 none is left out

@@ -20,6 +20,7 @@ use Rattle.rules.specs.Image.{isImage}
 
 -- WHAT IS ASKED, AND WHAT COMES OF IT
 
+-- a question to the definitions
 pub data Asked : Type 0 where
   -- the bound of a row of a table; the first n values of a row's iteration, under the rows above it
   bound-of : (table : List Row) (row : ℕ) → Asked
@@ -32,6 +33,7 @@ pub data Asked : Type 0 where
   call-on : (st : Station) (c : Call) → Asked
   block-of : (st : Station) → Asked
 
+-- what they say
 pub data Found : Type 0 where
   R-and-U : (R U : ℕ) → Found
   values : List ℕ → Found
@@ -45,16 +47,20 @@ pub data Found : Type 0 where
 
 -- 6 to 10, 12 and 14 are about a row
 
+-- a refusal that names its row
 abbrev pub rowRefusal : Refused → Found
 rowRefusal x = refuses (number (x .why)) (suc (x .row))
 
+-- a refused call
 abbrev pub callRefusal : Refused → Found
 callRefusal x = cond (eqb (number (x .why)) 12 || eqb (number (x .why)) 14) (rowRefusal x) (refuses (number (x .why)) 0)
 
+-- R and U of a planned row
 abbrev pub rowFound : Option PlannedRow → Found
 rowFound none = passes
 rowFound (some p) = R-and-U (p .R) (promotion (p .row) (p .R))
 
+-- of the n-th row of a plan
 abbrev pub planFound : ℕ → Plan → Found
 planFound n (planned ps) = rowFound (getElem? ps (n - 1))
 planFound n (unplanned x) = rowRefusal x
@@ -64,24 +70,29 @@ abbrev pub valuesFrom : List Row → Row → ℕ → ℕ → List ℕ
 valuesFrom above r w zero = []
 valuesFrom above r w (suc n) = w ∷ valuesFrom above r (f above r w) n
 
+-- of reading a file
 abbrev pub fileFound : List ℕ → Reading → Found
 fileFound s (read-as ps) = passes
 fileFound s (unread why from size) = shows (number why) from size (take size (drop from s))
 
+-- of writing to an output
 abbrev pub outputFound : Writing → Found
 outputFound (written n after) = passes
 outputFound (unwritten why) = refuses (number why) 0
 
+-- of reading an event
 abbrev pub eventFound : List ℕ → Event → Found
 eventFound s (event c size) = passes
 eventFound s no-more = passes
 eventFound s (bad-event why size) = shows (number why) 0 size (take size s)
 
+-- of a call
 abbrev pub replyFound : Reply → Found
 replyFound (answered a) = ran (a .at) (a .runner) (a .closing)
 replyFound (took t) = ticket t
 replyFound (refused x) = callRefusal x
 
+-- the answer to each question
 abbrev pub found : Asked → Found
 found (bound-of table n) = planFound n (plan table)
 found (values-of above r n) = values (valuesFrom above r (r .C) n)
@@ -93,24 +104,30 @@ found (block-of st) = cond (isImage st) passes (refuses (number not-image) 0)
 
 -- a table, and that each of its lines holds
 
+-- questions, each with its answer
 abbrev pub Figures : Type 0
 Figures = List (Asked × Found)
 
+-- each answer is the one found
 abbrev pub AllHold : Figures → Type 0
 AllHold table = All (λ line. found (line .0) ≡ line .1) table
 
 -- THE MARKED FIGURES
 
+-- a row of these numbers
 abbrev pub row : ℕ → ℕ → ℕ → ℕ → Row
 row C D T rank = record { C = C; D = D; T = T; rank = rank }
 
+-- table A
 abbrev pub tableA : List Row
 tableA = row 2 6 8 0 ∷ row 5 12 12 1 ∷ []
 
+-- the fresh station of a plan
 abbrev pub freshOf : Plan → Station
 freshOf (planned ps) = freshStation ps
 freshOf (unplanned x) = freshStation []
 
+-- the fresh station of A
 abbrev pub stationA : Station
 stationA = freshOf (plan tableA)
 
@@ -118,6 +135,7 @@ stationA = freshOf (plan tableA)
 abbrev pub atClock2 : Station
 atClock2 = after stationA (tick-call 3 0 ∷ tick-call 0 2 ∷ [])
 
+-- document 01's, in its order
 abbrev pub figures : Figures
 figures =
     (bound-of tableA 1, R-and-U 2 4)
@@ -164,20 +182,24 @@ runLines (suc n) at s st = eventLines at s st (runLines n) (readEvent s)
 abbrev pub Listing : Type 0
 Listing = List (List ℕ × Found)
 
+-- the fields one after the other
 abbrev pub eventsOf : Listing → List ℕ
 eventsOf [] = []
 eventsOf (e ∷ es) = e .0 ++ eventsOf es
 
 -- the table is read, and `plan` or `run` prints the lines
 
+-- `plan` prints these lines
 abbrev pub Plans : List (List ℕ) → Reading → Type 0
 Plans lines (read-as ps) = planLines 1 ps ≡ lines
 Plans lines (unread why from size) = ⊥
 
+-- `run` prints the lines of the listing
 abbrev pub Runs : Listing → Reading → Type 0
 Runs es (read-as ps) = runLines (length (eventsOf es)) 0 (eventsOf es) (freshStation ps) ≡ map (λ e. e .1) es
 Runs es (unread why from size) = ⊥
 
+-- the file of table A
 abbrev pub fileA : List ℕ
 fileA =
     (0x01 ∷ 0x00 ∷ 0x07 ∷ 0x00 ∷ 0x02 ∷ 0x00 ∷ 0x06 ∷ 0x00 ∷ 0x08 ∷ 0x00 ∷ [])
@@ -209,6 +231,7 @@ emptyListing =
 abbrev pub rankListing : Listing
 rankListing = (0x21 ∷ 0x00 ∷ 0x03 ∷ 0x00 ∷ 0x03 ∷ 0x00 ∷ [], ran 0 (hard 1 lower) nothing) ∷ []
 
+-- what is printed of A, of the empty table, and of ranks against the order of rows
 pub record Listings : Type 0 where
   pub plan-A : Plans ((1 ∷ 2 ∷ 6 ∷ 8 ∷ 2 ∷ 4 ∷ 1 ∷ []) ∷ (2 ∷ 5 ∷ 12 ∷ 12 ∷ 7 ∷ 5 ∷ 2 ∷ []) ∷ []) (read fileA)
   pub run-A : Runs listing (read fileA)

@@ -36,10 +36,10 @@ abbrev pub unrun : List Firm → ℕ
 unrun fs = total (λ f. f .budget - f .run) fs
 
 -- room, d less the claims, is not below what firm jobs want of it
--- 18: the room holds B and the budgets still unrun of all queued firm jobs
 abbrev pub fitsAt : List Slot → ℕ → ℕ → Bool
 fitsAt ss wanted d = leb (claims ss d + wanted) d
 
+-- 18: the room holds B and the budgets still unrun of all queued firm jobs
 abbrev pub fits : Station → ℕ → ℕ → Bool
 fits st B d = fitsAt (st .slots) (B + unrun (st .firms)) d
 

@@ -33,10 +33,12 @@ fieldUnless (some b) good = Field.Bad (number (b .why)) (b .size)
 unfoldable pub fieldOf : Bool → List ℕ → Field
 fieldOf full s = fieldUnless (fieldFault tableLength (isRow s && full) s) (cond (isRow s) Field.Row Field.End)
 
+-- how many rows the file has, or why it is broken
 abbrev pub scannedOf : Scan → Scanned
 scannedOf (whole rs) = Scanned.Whole (length rs)
 scannedOf (broken why from size) = Scanned.Broken (number why) from size
 
+-- whether the checks pass, or the number and the row
 abbrev pub checkedOf : Option Refused → Checked
 checkedOf none = Checked.Passed
 checkedOf (some x) = Checked.Failed (number (x .why)) (x .row)
@@ -49,13 +51,16 @@ rowChecked tb i = checkedOf (Option·map (λ why. atRow why i) (rowFault (tb .n)
 abbrev pub demandOf : List Row → ℕ → ℕ
 demandOf above w = total (λ j. most j w) above
 
+-- R with the rounds, or that the iteration passes D
 abbrev pub boundOf : rules.Bound → Bound
 boundOf (bound R rounds) = Bound.Found R rounds
 boundOf none-to-D = Bound.PassesD
 
+-- a refused table has no plan
 abbrev pub refusedPlanning : ℕ → ℕ → Planning
 refusedPlanning number row = record { verdict = Checked.Failed number row; plan = planOf [] }
 
+-- the plan, or the number and the row
 abbrev pub planningOf : rules.Plan → Planning
 planningOf (planned ps) = record { verdict = Checked.Passed; plan = planOf ps }
 planningOf (unplanned x) = refusedPlanning (number (x .why)) (x .row)
@@ -64,6 +69,7 @@ planningOf (unplanned x) = refusedPlanning (number (x .why)) (x .row)
 unfoldable pub planOrRefuse : List Row → rules.Plan
 planOrRefuse rs = cond (ltb 16 (length rs)) (unplanned (refusal row-17)) (plan rs)
 
+-- a refused file has no table and no plan
 abbrev pub refusedRead : ℕ → ℕ → ℕ → TableRead
 refusedRead number from size =
     record {
@@ -72,10 +78,12 @@ refusedRead number from size =
       plan = planOf [];
     }
 
+-- the table with its plan, or the number and the shown part
 abbrev pub readingOf : Reading → TableRead
 readingOf (read-as ps) = record { verdict = Verdict.Accepted; table = tableOf (map (λ p. p .row) ps); plan = planOf ps }
 readingOf (unread why from size) = refusedRead (number why) from size
 
+-- the length, or the number
 abbrev pub writtenOf : Writing → Written
 writtenOf (written n after) = Written.Length n
 writtenOf (unwritten why) = Written.Refused (number why)

@@ -24,6 +24,7 @@ fill (suc n) (x ∷ l) = x ∷ fill n l
 abbrev pub rowAt : Table → ℕ → Row
 rowAt tb i = record { C = getD (tb .c) i 0; D = getD (tb .d) i 0; T = getD (tb .t) i 0; rank = getD (tb .rank) i 0 }
 
+-- the rows of a table in memory
 abbrev pub rowsOf : Table → List Row
 rowsOf tb = indexed (rowAt tb) 0 (tb .n)
 
@@ -32,6 +33,7 @@ abbrev pub aboveOf : Table → ℕ → List Row
 aboveOf tb zero = []
 aboveOf tb (suc i) = rowAt tb i ∷ aboveOf tb i
 
+-- rows as a table in memory
 abbrev pub tableOf : List Row → Table
 tableOf rs =
     record {
@@ -42,6 +44,7 @@ tableOf rs =
       rank = fill 16 (map (λ r. r .rank) rs);
     }
 
+-- a plan in memory
 abbrev pub planOf : List PlannedRow → Plan
 planOf ps =
     record {
