@@ -14,3 +14,4 @@ pub mod Meant
 pub mod Held
 pub mod Bytes
 pub mod Results
+pub mod OneResult

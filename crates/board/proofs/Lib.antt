@@ -5,4 +5,5 @@ pub mod Held
 pub mod Fresh
 pub mod Refusals
 pub mod Shown
+pub mod OneResult
 pub mod Results

@@ -27,23 +27,11 @@ use Rattle.block.specs.Tests.{decodedAs, decodedOf}
 use Rattle.block.proofs.Results.{block-promises}
 use Rattle.board.specs.Blocks.{giving, planBlock, planOf}
 use Rattle.board.specs.Numbers.{refusedPlan}
-use Rattle.board.specs.Promises.{AnyBlock, HardOnBlock, OnBlocks, OneResults, Promises, UploadOnBlock, blockAfter, blockOn, blockReplies, replyOn}
+use Rattle.board.specs.Promises.{AnyBlock, HardOnBlock, OnBlocks, Promises, UploadOnBlock, blockAfter, blockOn, blockReplies, replyOn}
 use Rattle.board.proofs.Fresh.{fresh-held, planned-rows}
 use Rattle.board.proofs.Held.{Held, after-held, replies-held, step-held}
 use Rattle.board.proofs.Named.{named-back}
 use Rattle.board.proofs.Refusals.{offer-not-11, tick-not-11}
-
--- one result
-
-pub one-result : {A : Type 0} {f x y : A} → x ≡ f → y ≡ f → x ≡ y
-one-result p q = p ∙ sym q
-
-pub one-results : OneResults
-one-results = record {
-  of-plan = λ file b r r′ e e′ p q. (one-result (p .0) (q .0), one-result (p .1) (q .1));
-  of-tick = λ b set flags r r′ e e′ p q. (one-result (p .0) (q .0), one-result (p .1) (q .1));
-  of-offer = λ b B d r r′ e e′ p q. (one-result (p .0) (q .0), one-result (p .1) (q .1));
-}
 
 -- what is said of an accepted call, by its reply
 

@@ -21,7 +21,7 @@ use Rattle.block.specs.Tests.{decodedOf}
 use Rattle.board.specs.declared.OfferAnswer.{OfferAnswer}
 use Rattle.board.specs.declared.TickAnswer.{TickAnswer}
 use Rattle.board.specs.Numbers.{rowNumber}
-use Rattle.board.specs.Blocks.{Out, offerBlock, planBlock, tickBlock}
+use Rattle.board.specs.Blocks.{offerBlock, planBlock, tickBlock}
 
 -- THE ANSWERS, read as document 01's replies
 
@@ -78,19 +78,6 @@ blockReplies b (c ∷ cs) = replyOn b c ∷ blockReplies (blockOn b c) cs
 abbrev pub blockAfter : List ℕ → List Call → List ℕ
 blockAfter b [] = b
 blockAfter b (c ∷ cs) = blockAfter (blockOn b c) cs
-
--- WHAT A CONTRACT ALLOWS, of each exported function on each input: this answer, and this block at its end
-abbrev pub Allowed : {A : Type 0} → Out A → A → List ℕ → Type 0
-Allowed o answer block = (answer ≡ o .answer) × (block ≡ o .block)
-
--- two results that are both allowed are equal
-abbrev pub OneResult : {A : Type 0} → Out A → Type 0
-OneResult {A} o = (r r′ : A) (e e′ : List ℕ) → Allowed o r e → Allowed o r′ e′ → (r ≡ r′) × (e ≡ e′)
-
-pub record OneResults : Type 0 where
-  pub of-plan : (file b : List ℕ) → OneResult (planBlock file b)
-  pub of-tick : (b : List ℕ) (set flags : ℕ) → OneResult (tickBlock b set flags)
-  pub of-offer : (b : List ℕ) (B d : ℕ) → OneResult (offerBlock b B d)
 
 -- DEMAND 1, of any bytes at all: where the answer is a refusal, every byte is as before the call
 pub record Untouched : Type 0 where

@@ -20,3 +20,4 @@ pub mod Entries
 pub mod OfferRefine
 pub mod PlannedRows
 pub mod NamedRows
+pub mod OneResult

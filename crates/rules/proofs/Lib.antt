@@ -34,5 +34,6 @@ pub mod LastRan
 pub mod Image
 pub mod ImageTests
 pub mod ImageIs
+pub mod OneResult
 pub mod Results
 pub mod Worked

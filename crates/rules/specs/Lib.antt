@@ -12,5 +12,6 @@ pub mod Calls
 pub mod Events
 pub mod Image
 pub mod Promise
+pub mod OneResult
 pub mod Figures
 pub mod Examples

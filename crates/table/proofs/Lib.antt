@@ -8,3 +8,4 @@ pub mod Plans
 pub mod Verdicts
 pub mod Files
 pub mod RoundTrip
+pub mod OneResult
