@@ -19,10 +19,12 @@ use Rattle.rules.specs.Tables.{RanksOk, ranked}
 use Rattle.rules.proofs.Bools.{or-true}
 use Rattle.rules.proofs.Ranks.{ranks-below}
 use Rattle.dispatch.specs.Meaning.{rowsFrom}
+use Rattle.dispatch.specs.Sets.{known}
+use Rattle.dispatch.proofs.Bits.{bit-known, bit-one, bit-or, bit-past}
 use Rattle.dispatch.proofs.Entries.{total-rows}
 use Rattle.dispatch.proofs.Positions.{length-rows}
-use Rattle.block.specs.Tests.{known, orOf}
-use Rattle.block.proofs.Bits.{bit-known, bit-one, bit-or, bit-past, known-lt, same-bits}
+use Rattle.block.specs.Tests.{orOf}
+use Rattle.block.proofs.Bits.{known-below, same-bits}
 use Rattle.block.proofs.Entered.{all-rows}
 use Rattle.block.proofs.Ors.{or-below}
 
@@ -148,7 +150,7 @@ module _ (g : ℕ → Row) (n : ℕ) (few : n ≤ 16) where
   rank-lt ok i l = omega (arith, all-rows g (λ r. r .rank < length rows) 0 n i (ranks-below rows ok) (omega arith) (omega arith), length-rows g 0 n)
 
   pub once-set : RanksOk rows → orOf mark n ≡ known n
-  once-set ok = same-bits n (orOf mark n) (known n) (or-below mark n n low) (known-lt n few) (λ k l. some-bit mark k n (found k l .0) (found k l .1) (found k l .2) ∙ sym (bit-known n k few ∙ lt-ltb k n l))
+  once-set ok = same-bits n (orOf mark n) (known n) (or-below mark n n low) (known-below n few) (λ k l. some-bit mark k n (found k l .0) (found k l .1) (found k l .2) ∙ sym (bit-known n k few ∙ lt-ltb k n l))
     where
       low : (i : ℕ) → i < n → mark i < 2 ^ n
       low i l = let m = rank-lt ok i l in let e : g i .rank % 32 ≡ g i .rank = omega arith in rw e (pow-lt m)
