@@ -19,11 +19,12 @@ use Rattle.rules.proofs.Image.{Image}
 use Rattle.dispatch.specs.declared.Rows.{Rows}
 use Rattle.dispatch.specs.declared.State.{State}
 use Rattle.dispatch.specs.Meaning.{Kept, ageAt, entry, firmAt, firmsOf, lastOf, rowAt, rowsFrom, slotAt, slotsOf, stationOf, wrapped}
-use Rattle.dispatch.proofs.Positions.{length-rows}
+use Rattle.dispatch.proofs.Bools.{or-yes}
+use Rattle.dispatch.proofs.Positions.{length-rows, map-rows, rows-all}
 use Rattle.block.specs.Layout.{Long}
 use Rattle.block.specs.Image.{Blank, Imaged}
 use Rattle.block.proofs.Bits.{in-known}
-use Rattle.block.proofs.Entered.{entry-out, map-rows, rows-all, rows-hold, rows-run}
+use Rattle.block.proofs.Entered.{entry-out, rows-hold, rows-run}
 use Rattle.block.proofs.Numbers.{FirmSays, RowSays, behind-next, firm-says, row-says, stamp-quiet, stamp-young, to-runs, to-tickets}
 use Rattle.block.proofs.RankSets.{set-once}
 use Rattle.block.proofs.Tested.{Checked, last-low, lastTest}
@@ -98,10 +99,6 @@ module _ (rows : Rows) (s : State) (L : Long rows s) (F : Fit rows s) (C : Check
       let few = C .few in
       stamp-young (bit (s .rested) i || not (ltb i (rows .n))) (entry (rows .t) i) (s .clock) (entry (s .stamp) i) (rw (r, lt-ltb i (rows .n) h)) (C .stamp i (omega arith))
 
-  or-true : (a : Bool) → (a || true) ≡ true
-  or-true true = refl
-  or-true false = refl
-
   stamp-zero : (i : ℕ) → (bit (s .rested) i || not (ltb i (rows .n))) ≡ true → entry (s .stamp) i ≡ 0
   stamp-zero i e = by-place (entry (s .stamp) i ≡ 0) i 16
       (λ l. stamp-quiet (bit (s .rested) i || not (ltb i (rows .n))) (entry (rows .t) i) (s .clock) (entry (s .stamp) i) e (C .stamp i l))
@@ -140,7 +137,7 @@ module _ (rows : Rows) (s : State) (L : Long rows s) (F : Fit rows s) (C : Check
       stamps = L .stamp-long;
       stamp-lt = F .stamp-lt;
       rested-past = rested-in;
-      stamp-past = λ i h. stamp-zero i (rw (le-ltb i (rows .n) h) (or-true (bit (s .rested) i)));
+      stamp-past = λ i h. stamp-zero i (rw (le-ltb i (rows .n) h) (or-yes (bit (s .rested) i)));
       young = young;
       stamp-blank = λ i e. stamp-zero i (rw e);
     };
@@ -236,22 +233,22 @@ module _ (rows : Rows) (s : State) (L : Long rows s) (F : Fit rows s) (C : Check
   conditions : Image (stationOf rows s)
   unfolding stationOf
   conditions =
-      let slots-are : rowsOf (slotsOf rows s) ≡ rowsFrom (rowAt rows) 0 (rows .n) = map-rows (slotAt rows s) (λ x. x .row) 0 (rows .n) in
+      let slots-are : rowsOf (slotsOf rows s) ≡ rowsFrom (rowAt rows) 0 (rows .n) = map-rows (λ x. x .row) (slotAt rows s) 0 (rows .n) in
       let few = C .few in
       record {
         clock-lt = F .clock-lt;
         table = rw slots-are (record {
           few = rw (length-rows (rowAt rows) 0 (rows .n)) few;
-          narrow = rows-all (rowAt rows) (λ r. r .T < 2 ^ 16) 0 (rows .n) (λ i a b. F .t-lt i);
+          narrow = rows-all (λ r. r .T < 2 ^ 16) (rowAt rows) 0 (rows .n) (λ i a b. F .t-lt i);
           no-fault = tableFault-iff (rowsFrom (rowAt rows) 0 (rows .n)) .1 (
-            rows-all (rowAt rows) RowOk 0 (rows .n) (λ i a b. row-ok i (omega arith)),
+            rows-all RowOk (rowAt rows) 0 (rows .n) (λ i a b. row-ok i (omega arith)),
             set-once (rowAt rows) (rows .n) few (λ i h. C .rank-low i (omega arith)) (C .ranks),
           );
         });
-        good = rows-all (slotAt rows s) Good 0 (rows .n) (λ i a b. good i (omega arith));
+        good = rows-all Good (slotAt rows s) 0 (rows .n) (λ i a b. good i (omega arith));
         runs = rows-run (slotAt rows s) (lastAt (lastOf s)) 0 (rows .n) (λ i a b. runs i (omega arith));
-        firms = rows-all (firmAt s) (λ f. lastTo (lastOf s) (f .ticket) ≡ false → Live f) 0 (s .count) (λ j a b. live j (omega arith));
-        paid = rows-all (firmAt s) (λ f. (1 ≤ f .budget) × (f .run ≤ f .budget) × (f .budget < 2 ^ 16)) 0 (s .count) (λ j a b. paid j (omega arith));
+        firms = rows-all (λ f. lastTo (lastOf s) (f .ticket) ≡ false → Live f) (firmAt s) 0 (s .count) (λ j a b. live j (omega arith));
+        paid = rows-all (λ f. (1 ≤ f .budget) × (f .run ≤ f .budget) × (f .budget < 2 ^ 16)) (firmAt s) 0 (s .count) (λ j a b. paid j (omega arith));
         tickets = record {
           few = rw (length-rows (firmAt s) 0 (s .count)) (C .firms-few);
           next-lt = F .next-lt;
