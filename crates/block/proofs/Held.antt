@@ -80,7 +80,7 @@ module _ (rows : Rows) (s : State) (I : Imaged rows s) where
   in-order : (i : ℕ) → (entry (rows .c) i ≤ entry (rows .d) i) × (entry (rows .d) i ≤ entry (rows .t) i) × (entry (rows .u) i + entry (rows .c) i ≤ entry (rows .d) i)
   in-order i = row-case (λ k. (entry (rows .c) k ≤ entry (rows .d) k) × (entry (rows .d) k ≤ entry (rows .t) k) × (entry (rows .u) k + entry (rows .c) k ≤ entry (rows .d) k)) i
       (λ l. let G = row-good rows s (I .stored) i l in (omega (arith, G .U-le), G .D-le, G .U-le))
-      (λ g. let B = I .past i g in (omega (arith, B .C-blank), omega (arith, B .D-blank), omega (arith, B .C-blank, B .U-blank)))
+      (λ g. omega (arith, K .table .past i g))
 
   run-le : (i : ℕ) → entry (s .run) i ≤ cond (bit (s .«open») i) (entry (rows .c) i - cond (eqb i (s .last)) 0 1) 0
   run-le i = row-case (λ k. entry (s .run) k ≤ cond (bit (s .«open») k) (entry (rows .c) k - cond (eqb k (s .last)) 0 1) 0) i inside
@@ -120,7 +120,7 @@ module _ (rows : Rows) (s : State) (I : Imaged rows s) where
   there : (i : ℕ) → cond (ltb i (rows .n)) (1 - entry (rows .c) i) (entry (rows .t) i) ≡ 0
   there i = row-case (λ k. cond (ltb k (rows .n)) (1 - entry (rows .c) k) (entry (rows .t) k) ≡ 0) i
       (λ l. rw (lt-ltb i (rows .n) l) (omega (arith, row-good rows s (I .stored) i l .C-pos)))
-      (λ g. rw (le-ltb i (rows .n) g) (I .past i g .T-blank))
+      (λ g. rw (le-ltb i (rows .n) g) (K .table .past i g .2))
 
   -- quiet: rested, or not there
   quiet : (i : ℕ) → (bit (s .rested) i || not (ltb i (rows .n))) ≡ true → entry (s .stamp) i ≡ 0
@@ -215,8 +215,8 @@ module _ (rows : Rows) (s : State) (I : Imaged rows s) where
     firm = λ j h. says-firm (ltb j (s .count)) (eqb j 0 && eqb 16 (s .last)) (entry (s .budget) j) (entry (s .used) j) (record { there = firm-there j; runs = firm-runs j });
     ticket = λ j h. ticket-due j;
     ranks = once-set (rowAt rows) (rows .n) (K .table .few) ranks-ok;
-    rank-low = λ i h. row-case (λ k. entry (rows .rank) k < 32) i (λ l. omega (arith, rank-lt (rowAt rows) (rows .n) (K .table .few) ranks-ok i l, K .table .few)) (λ g. omega (arith, I .past i g .rank-blank));
-    rank-past = λ i h g. I .past i g .rank-blank;
+    rank-low = λ i h. row-case (λ k. entry (rows .rank) k < 32) i (λ l. omega (arith, rank-lt (rowAt rows) (rows .n) (K .table .few) ranks-ok i l, K .table .few)) (λ g. omega (arith, K .table .past i g .4));
+    rank-past = λ i h g. K .table .past i g .4;
     open-le = known-in (rows .n) (s .«open») (K .table .few) (K .jobs .open-lt) (K .jobs .open-past);
     rested-le = known-in (rows .n) (s .rested) (K .table .few) (K .times .rested-lt) (K .times .rested-past);
     last-ok = last-passes;

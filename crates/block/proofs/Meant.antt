@@ -22,7 +22,7 @@ use Rattle.dispatch.specs.Meaning.{Kept, ageAt, entry, firmAt, firmsOf, lastOf,
 use Rattle.dispatch.proofs.Bools.{or-yes}
 use Rattle.dispatch.proofs.Positions.{length-rows, map-rows, rows-all}
 use Rattle.block.specs.Layout.{Long}
-use Rattle.block.specs.Image.{Blank, Imaged}
+use Rattle.block.specs.Image.{Imaged}
 use Rattle.block.proofs.Bits.{in-known}
 use Rattle.block.proofs.Entered.{entry-out, rows-hold, rows-run}
 use Rattle.block.proofs.Numbers.{FirmSays, RowSays, behind-next, firm-says, row-says, stamp-quiet, stamp-young, to-runs, to-tickets}
@@ -62,29 +62,21 @@ module _ (rows : Rows) (s : State) (L : Long rows s) (F : Fit rows s) (C : Check
       let e : 1 - entry (rows .c) i ≡ 0 = rw (lt-ltb i (rows .n) h) at (says i (omega arith) .there) in
       omega arith
 
-  row-past : (i : ℕ) → rows .n ≤ i → Blank rows i
-  row-past i h = by-place (Blank rows i) i 16 inside outside
+  -- no row stands there
+  abbrev Blank : ℕ → Type 0
+  Blank i = (entry (rows .c) i ≡ 0) × (entry (rows .d) i ≡ 0) × (entry (rows .t) i ≡ 0) × (entry (rows .u) i ≡ 0) × (entry (rows .rank) i ≡ 0)
+
+  row-past : (i : ℕ) → rows .n ≤ i → Blank i
+  row-past i h = by-place (Blank i) i 16 inside outside
     where
-      inside : i < 16 → Blank rows i
+      inside : i < 16 → Blank i
       inside l =
           let R = says i l in
           let T-zero : entry (rows .t) i ≡ 0 = rw (le-ltb i (rows .n) h) at (R .there) in
-          record {
-            C-blank = omega (arith, R .C-le, R .D-le);
-            D-blank = omega (arith, R .D-le);
-            T-blank = T-zero;
-            U-blank = omega (arith, R .U-le, R .D-le);
-            rank-blank = C .rank-past i l h;
-          }
+          (omega (arith, R .C-le, R .D-le), omega (arith, R .D-le), T-zero, omega (arith, R .U-le, R .D-le), C .rank-past i l h)
 
-      outside : 16 ≤ i → Blank rows i
-      outside g = record {
-        C-blank = entry-out (rows .c) 16 i (L .c-long) g;
-        D-blank = entry-out (rows .d) 16 i (L .d-long) g;
-        T-blank = entry-out (rows .t) 16 i (L .t-long) g;
-        U-blank = entry-out (rows .u) 16 i (L .u-long) g;
-        rank-blank = entry-out (rows .rank) 16 i (L .rank-long) g;
-      }
+      outside : 16 ≤ i → Blank i
+      outside g = (entry-out (rows .c) 16 i (L .c-long) g, entry-out (rows .d) 16 i (L .d-long) g, entry-out (rows .t) 16 i (L .t-long) g, entry-out (rows .u) 16 i (L .u-long) g, entry-out (rows .rank) 16 i (L .rank-long) g)
 
   open-in : (i : ℕ) → rows .n ≤ i → bit (s .«open») i ≡ false
   open-in i h = in-known (rows .n) (s .«open») i (C .few) (C .open-le) h
@@ -126,11 +118,7 @@ module _ (rows : Rows) (s : State) (L : Long rows s) (F : Fit rows s) (C : Check
 
   kept : Kept rows s
   kept = record {
-    table = record {
-      few = C .few;
-      rank-lt = F .rank-lt;
-      past = λ i h. let B = row-past i h in (B .C-blank, B .D-blank, B .T-blank, B .U-blank, B .rank-blank);
-    };
+    table = record { few = C .few; rank-lt = F .rank-lt; past = row-past };
     times = record {
       clock-lt = F .clock-lt;
       rested-lt = F .rested-lt;
@@ -259,4 +247,4 @@ module _ (rows : Rows) (s : State) (L : Long rows s) (F : Fit rows s) (C : Check
       }
 
   pub imaged : Imaged rows s
-  imaged = record { stored = record { kept = kept; image = ImageIs.image-iff (stationOf rows s) .1 conditions }; long = L; past = row-past }
+  imaged = record { stored = record { kept = kept; image = ImageIs.image-iff (stationOf rows s) .1 conditions }; long = L }
