@@ -1,6 +1,6 @@
 // The 512-byte block: the image of a state in memory, decoded and encoded. docs/block.md has the layout.
-pub mod words; // words.rt: little-endian numbers, and arrays of them, read and put
-pub mod checks; // checks.rt: is it the image of a state
+mod words; // words.rt: little-endian numbers, and arrays of them, read and put
+mod checks; // checks.rt: is it the image of a state
 
 ghost use mathlib.Core.Path.{_≡_};
 ghost use lib.ListN.{length};
