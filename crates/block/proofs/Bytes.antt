@@ -5,6 +5,7 @@ use native.Mathlib.Omega.{arith}
 use lib.ListN.{replicate}
 use Rattle.rules.specs.Lists.{All}
 use Rattle.rules.specs.Tables.{Bytes}
+use Rattle.rules.proofs.Fields.{byte-lt}
 use Rattle.dispatch.specs.declared.Rows.{Rows}
 use Rattle.dispatch.specs.declared.State.{State}
 use Rattle.dispatch.specs.Meaning.{entry}
@@ -12,7 +13,7 @@ use Rattle.dispatch.proofs.Positions.{length-rows}
 use Rattle.block.specs.Words.{four, joined, one, quad, quadsAt, two, word, wordsAt}
 use Rattle.block.specs.Layout.{Long, headOf, imageOf, jobsOf, queueOf, reserved, rowsAt, stateAt, tableOf}
 use Rattle.block.proofs.Entered.{entry-below}
-use Rattle.block.proofs.Parts.{byte-lt, quad-lt, word-lt}
+use Rattle.block.proofs.Parts.{quad-lt, word-lt}
 use Rattle.block.proofs.ReadBack.{all-entries}
 use Rattle.block.proofs.Trip.{Fit}
 

@@ -1,13 +1,12 @@
 -- Facts of the entries of arrays, and of the lists that are read off them. Assumes nothing.
 use Prim.Native.Nat.{ℕ, suc, zero, _+_, _<_, _≤_}
 use mathlib.Core.Bool.{Bool}
-use mathlib.Core.List.{List, _∷_, map}
+use mathlib.Core.List.{List, _∷_}
 use mathlib.Core.Logic.{inl, inr}
-use mathlib.Core.Path.{ap, refl, sym, _∙_, _≡_}
+use mathlib.Core.Path.{ap, _∙_, _≡_}
 use native.Mathlib.Decide.{decLt}
 use native.Mathlib.Omega.{arith}
 use lib.ListN.{length, List·getD-eq-default}
-use Rattle.rules.specs.Lists.{All}
 use Rattle.rules.specs.Station.{Slot}
 use Rattle.rules.proofs.Facts.{AllRuns, Runs}
 use Rattle.rules.proofs.Walks.{Holds}
@@ -35,29 +34,9 @@ entry-below g n m z h i = go (decLt i n)
     go (yes l) = rw (entry-is g n i l) (h i)
     go (no k) = rw (entry-out (rowsFrom g 0 n) n i (length-rows g 0 n) (omega arith)) z
 
--- everywhere
+-- at one position
 
 module _ {A : Type 0} (g : ℕ → A) where
-  pub rows-all : (P : A → Type 0) (i k : ℕ) → ((j : ℕ) → i ≤ j → j < i + k → P (g j)) → All P (rowsFrom g i k)
-  unfolding rowsFrom
-  rows-all P i zero h = tt
-  rows-all P i (suc k) h = (h i (omega arith) (omega arith), rows-all P (suc i) k (λ j a b. h j (omega arith) (omega arith)))
-
-  pub all-rows : (P : A → Type 0) (i k j : ℕ) → All P (rowsFrom g i k) → i ≤ j → j < i + k → P (g j)
-  unfolding rowsFrom
-  all-rows P i zero j x a b = absurd (omega arith)
-  all-rows P i (suc k) j (x, xs) a b = go (decLt i j) (all-rows P (suc i) k j xs)
-    where
-      go : Dec (i < j) → (suc i ≤ j → j < suc i + k → P (g j)) → P (g j)
-      go (yes l) ih = ih l (omega arith)
-      go (no n) ih = let e : j ≡ i = omega arith in rw e x
-
-  pub map-rows : {B : Type 0} (f : A → B) (i k : ℕ) → map f (rowsFrom g i k) ≡ rowsFrom (λ j. f (g j)) i k
-  unfolding rowsFrom
-  map-rows f i zero = refl
-  map-rows f i (suc k) = ap (λ l. f (g i) ∷ l) (map-rows f (suc i) k)
-
-  -- at one position
   pub rows-hold : (P : A → Type 0) (j i k : ℕ) → i ≤ j → j < i + k → P (g j) → Holds P j i (rowsFrom g i k)
   unfolding rowsFrom
   rows-hold P j i zero a b p = absurd (omega arith)
@@ -67,23 +46,10 @@ module _ {A : Type 0} (g : ℕ → A) where
       go (yes l) ih = inr (ih l)
       go (no n) ih = let e : i ≡ j = omega arith in inl (e, rw e p)
 
-  pub hold-rows : (P : A → Type 0) (j i k : ℕ) → Holds P j i (rowsFrom g i k) → (j < i + k) × P (g j)
-  unfolding rowsFrom
-  hold-rows P j i zero x = absurd x
-  hold-rows P j i (suc k) (inl (e, p)) = (omega arith, rw (sym e) p)
-  hold-rows P j i (suc k) (inr x) = let y = hold-rows P j (suc i) k x in (omega (arith, y .0), y .1)
+-- everywhere
 
 module _ (g : ℕ → Slot) (ran : ℕ → Bool) where
   pub rows-run : (i k : ℕ) → ((j : ℕ) → i ≤ j → j < i + k → Runs (ran j) (g j)) → AllRuns ran i (rowsFrom g i k)
   unfolding rowsFrom
   rows-run i zero h = tt
   rows-run i (suc k) h = (h i (omega arith) (omega arith), rows-run (suc i) k (λ j a b. h j (omega arith) (omega arith)))
-
-  pub run-rows : (i k j : ℕ) → AllRuns ran i (rowsFrom g i k) → i ≤ j → j < i + k → Runs (ran j) (g j)
-  unfolding rowsFrom
-  run-rows i zero j x a b = absurd (omega arith)
-  run-rows i (suc k) j (x, xs) a b = go (decLt i j) (run-rows (suc i) k j xs)
-    where
-      go : Dec (i < j) → (suc i ≤ j → j < suc i + k → Runs (ran j) (g j)) → Runs (ran j) (g j)
-      go (yes l) ih = ih l (omega arith)
-      go (no n) ih = let e : j ≡ i = omega arith in rw e x

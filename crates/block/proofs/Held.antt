@@ -6,24 +6,23 @@ use mathlib.Core.Path.{refl, sym, _∙_, _≡_}
 use borrow.Author.Tests.{eq-eqb, eqb-false, eqb-true, le-ltb, leb-true, lt-ltb, ltb-false, ltb-true, ne-eqb}
 use lib.Dec.{eqb, leb, ltb}
 use native.Mathlib.Decide.{decLt}
-use native.Mathlib.Nat.{mod-lt}
 use native.Mathlib.Omega.{arith}
 use Rattle.rules.specs.Image.{lastOk}
 use Rattle.rules.specs.Station.{Slot, closed, firm-of, nobody, opened, row-at}
 use Rattle.rules.specs.Tick.{bit, lastAt, lastTo}
 use Rattle.rules.specs.Tables.{RanksOk}
 use Rattle.rules.proofs.Bools.{and-true, true-and}
-use Rattle.rules.proofs.Facts.{Good, HasRun, LastRan, Live, Paid, Runs, closed-not-open}
+use Rattle.rules.proofs.Facts.{HasRun, LastRan, Live, Paid, Runs, closed-not-open}
 use Rattle.rules.proofs.Faults.{tableFault-iff}
-use Rattle.rules.proofs.ImageIs
-use Rattle.rules.proofs.ImageTests.{last-iff}
+use Rattle.rules.proofs.ImageTests.{last-iff, opened-same}
 use Rattle.rules.proofs.Image.{Image, TableOk}
 use Rattle.dispatch.specs.declared.Rows.{Rows}
 use Rattle.dispatch.specs.declared.State.{State}
 use Rattle.dispatch.specs.Meaning.{Kept, ageAt, entry, firmAt, firmsOf, lastOf, rowAt, rowsFrom, slotAt, slotsOf, stationOf, wrapped}
+use Rattle.dispatch.proofs.Positions.{all-rows, holds-rows, map-rows}
+use Rattle.dispatch.proofs.Widths.{Widths, image-of, row-good, runs-rows, widths}
 use Rattle.block.specs.Image.{Imaged}
 use Rattle.block.proofs.Bits.{known-in}
-use Rattle.block.proofs.Entered.{all-rows, hold-rows, map-rows, run-rows}
 use Rattle.block.proofs.Meant.{last-at}
 use Rattle.block.proofs.Numbers.{behind-next, from-runs, from-tickets, not-first, says-firm, says-row, stamp-says}
 use Rattle.block.proofs.RankSets.{once-set, rank-lt}
@@ -36,11 +35,11 @@ module _ (rows : Rows) (s : State) (I : Imaged rows s) where
   K = I .stored .kept
 
   image : Image (stationOf rows s)
-  image = ImageIs.image-iff (stationOf rows s) .0 (I .stored .image)
+  image = image-of rows s (I .stored)
 
   table : TableOk (rowsFrom (rowAt rows) 0 (rows .n))
   unfolding stationOf image
-  table = rw (map-rows (slotAt rows s) (λ x. x .row) 0 (rows .n)) at (image .table)
+  table = rw (map-rows (λ x. x .row) (slotAt rows s) 0 (rows .n)) at (image .table)
 
   -- by the place of a row, of a firm job
 
@@ -58,25 +57,17 @@ module _ (rows : Rows) (s : State) (I : Imaged rows s) where
       go (yes l) = a l
       go (no m) = b (omega arith)
 
-  good : (i : ℕ) → i < rows .n → Good (slotAt rows s i)
-  unfolding stationOf image
-  good i h = all-rows (slotAt rows s) Good 0 (rows .n) i (image .good) (omega arith) (omega arith)
-
   runs : (i : ℕ) → i < rows .n → Runs (lastAt (lastOf s) i) (slotAt rows s i)
   unfolding stationOf image
-  runs i h = run-rows (slotAt rows s) (lastAt (lastOf s)) 0 (rows .n) i (image .runs) (omega arith) (omega arith)
+  runs i h = runs-rows (lastAt (lastOf s)) (slotAt rows s) 0 (rows .n) (image .runs) i (omega arith) (omega arith)
 
   paid : (j : ℕ) → j < s .count → Paid (firmAt s j)
   unfolding stationOf image
-  paid j h = all-rows (firmAt s) Paid 0 (s .count) j (image .paid) (omega arith) (omega arith)
+  paid j h = all-rows Paid (firmAt s) 0 (s .count) (image .paid) j (omega arith) (omega arith)
 
   live : (j : ℕ) → j < s .count → lastTo (lastOf s) (entry (s .ticket) j) ≡ false → entry (s .used) j < entry (s .budget) j
   unfolding stationOf image
-  live j h = all-rows (firmAt s) (λ f. lastTo (lastOf s) (f .ticket) ≡ false → Live f) 0 (s .count) j (image .firms) (omega arith) (omega arith)
-
-  next-lt : s .next < 2 ^ 32
-  unfolding stationOf image
-  next-lt = image .tickets .next-lt
+  live j h = all-rows (λ f. lastTo (lastOf s) (f .ticket) ≡ false → Live f) (firmAt s) 0 (s .count) (image .firms) j (omega arith) (omega arith)
 
   ticket-is : (j : ℕ) → j < s .count → entry (s .ticket) j ≡ (s .next + (2 ^ 32 - (s .count - j))) % 2 ^ 32
   unfolding stationOf image
@@ -85,16 +76,11 @@ module _ (rows : Rows) (s : State) (I : Imaged rows s) where
   ranks-ok : RanksOk (rowsFrom (rowAt rows) 0 (rows .n))
   ranks-ok = tableFault-iff (rowsFrom (rowAt rows) 0 (rows .n)) .0 (table .no-fault) .1
 
-  -- widths
-
-  t-lt : (i : ℕ) → entry (rows .t) i < 2 ^ 16
-  t-lt i = row-case (λ k. entry (rows .t) k < 2 ^ 16) i (λ l. all-rows (rowAt rows) (λ r. r .T < 2 ^ 16) 0 (rows .n) i (table .narrow) (omega arith) (omega arith)) (λ g. omega (arith, I .past i g .T-blank))
-
   -- a row in order, or none
   in-order : (i : ℕ) → (entry (rows .c) i ≤ entry (rows .d) i) × (entry (rows .d) i ≤ entry (rows .t) i) × (entry (rows .u) i + entry (rows .c) i ≤ entry (rows .d) i)
   in-order i = row-case (λ k. (entry (rows .c) k ≤ entry (rows .d) k) × (entry (rows .d) k ≤ entry (rows .t) k) × (entry (rows .u) k + entry (rows .c) k ≤ entry (rows .d) k)) i
-      (λ l. let G = good i l in (omega (arith, G .U-le), G .D-le, G .U-le))
-      (λ g. let B = I .past i g in (omega (arith, B .C-blank), omega (arith, B .D-blank), omega (arith, B .C-blank, B .U-blank)))
+      (λ l. let G = row-good rows s (I .stored) i l in (omega (arith, G .U-le), G .D-le, G .U-le))
+      (λ g. omega (arith, K .table .past i g))
 
   run-le : (i : ℕ) → entry (s .run) i ≤ cond (bit (s .«open») i) (entry (rows .c) i - cond (eqb i (s .last)) 0 1) 0
   run-le i = row-case (λ k. entry (s .run) k ≤ cond (bit (s .«open») k) (entry (rows .c) k - cond (eqb k (s .last)) 0 1) 0) i inside
@@ -105,49 +91,36 @@ module _ (rows : Rows) (s : State) (I : Imaged rows s) where
           let few = K .table .few in
           from-runs (rowAt rows i) (entry (rows .u) i) (ageAt rows s i) (entry (s .run) i) (bit (s .«open») i) (eqb i (s .last)) (rw (last-at s i (omega arith)) at (runs i l)) (K .jobs .run-blank i)
 
-  run-lt : (i : ℕ) → entry (s .run) i < 2 ^ 16
-  run-lt i = go (bit (s .«open») i) (eqb i (s .last)) (run-le i)
-    where
-      go : (o b : Bool) → entry (s .run) i ≤ cond o (entry (rows .c) i - cond b 0 1) 0 → entry (s .run) i < 2 ^ 16
-      go true b l = omega (arith, in-order i .0, in-order i .1, t-lt i)
-      go false b l = omega arith
-
-  budget-lt : (j : ℕ) → entry (s .budget) j < 2 ^ 16
-  budget-lt j = firm-case (λ k. entry (s .budget) k < 2 ^ 16) j (λ l. paid j l .2) (λ g. omega (arith, K .queue .past j g .1))
-
-  used-lt : (j : ℕ) → entry (s .used) j < 2 ^ 16
-  used-lt j = firm-case (λ k. entry (s .used) k < 2 ^ 16) j (λ l. omega (arith, paid j l .1, paid j l .2)) (λ g. omega (arith, K .queue .past j g .2))
-
-  ticket-lt : (j : ℕ) → entry (s .ticket) j < 2 ^ 32
-  ticket-lt j = firm-case (λ k. entry (s .ticket) k < 2 ^ 32) j (λ l. rw (ticket-is j l) (mod-lt (s .next + (2 ^ 32 - (s .count - j))) (omega arith))) (λ g. omega (arith, K .queue .past j g .0))
+  W : Widths rows s
+  W = widths rows s (I .stored)
 
   pub fit : Fit rows s
   fit = record {
     n-lt = omega (arith, K .table .few);
-    c-lt = λ i. omega (arith, in-order i .0, in-order i .1, t-lt i);
-    d-lt = λ i. omega (arith, in-order i .1, t-lt i);
-    t-lt = t-lt;
-    u-lt = λ i. omega (arith, in-order i .2, in-order i .1, t-lt i);
+    c-lt = λ i. W .rows-lt i .0;
+    d-lt = λ i. W .rows-lt i .1;
+    t-lt = λ i. W .rows-lt i .2;
+    u-lt = λ i. W .rows-lt i .3;
     rank-lt = K .table .rank-lt;
     clock-lt = K .times .clock-lt;
-    next-lt = next-lt;
+    next-lt = W .next-lt;
     open-lt = K .jobs .open-lt;
     rested-lt = K .times .rested-lt;
     last-lt = omega (arith, K .last-le);
     count-lt = omega (arith, K .queue .few);
-    run-lt = run-lt;
+    run-lt = W .run-lt;
     stamp-lt = K .times .stamp-lt;
-    budget-lt = budget-lt;
-    used-lt = used-lt;
-    ticket-lt = ticket-lt;
+    budget-lt = λ j. W .firms-lt j .1;
+    used-lt = λ j. W .firms-lt j .2;
+    ticket-lt = λ j. W .firms-lt j .0;
   }
 
   -- the tests
 
   there : (i : ℕ) → cond (ltb i (rows .n)) (1 - entry (rows .c) i) (entry (rows .t) i) ≡ 0
   there i = row-case (λ k. cond (ltb k (rows .n)) (1 - entry (rows .c) k) (entry (rows .t) k) ≡ 0) i
-      (λ l. rw (lt-ltb i (rows .n) l) (omega (arith, good i l .C-pos)))
-      (λ g. rw (le-ltb i (rows .n) g) (I .past i g .T-blank))
+      (λ l. rw (lt-ltb i (rows .n) l) (omega (arith, row-good rows s (I .stored) i l .C-pos)))
+      (λ g. rw (le-ltb i (rows .n) g) (K .table .past i g .2))
 
   -- quiet: rested, or not there
   quiet : (i : ℕ) → (bit (s .rested) i || not (ltb i (rows .n))) ≡ true → entry (s .stamp) i ≡ 0
@@ -172,7 +145,7 @@ module _ (rows : Rows) (s : State) (I : Imaged rows s) where
     where
       other : 16 ≡ s .last → entry (s .ticket) j ≡ entry (s .ticket) 0 → ⊥
       other q t =
-          let zero-is : j ≡ 0 = not-first (s .next) (s .count) j next-lt h (K .queue .few) (sym (ticket-is j h) ∙ t ∙ ticket-is 0 (omega arith)) in
+          let zero-is : j ≡ 0 = not-first (s .next) (s .count) j (W .next-lt) h (K .queue .few) (sym (ticket-is j h) ∙ t ∙ ticket-is 0 (omega arith)) in
           true≢false (sym (true-and (eq-eqb j 0 zero-is) (eq-eqb 16 (s .last) q)) ∙ e)
 
       go : (a x : Bool) → eqb (s .last) 16 ≡ x → lastTo (cond a (row-at (s .last)) (cond x (firm-of (entry (s .ticket) 0)) nobody)) (entry (s .ticket) j) ≡ false
@@ -196,7 +169,7 @@ module _ (rows : Rows) (s : State) (I : Imaged rows s) where
 
   ticket-due : (j : ℕ) → entry (s .ticket) j ≡ cond (ltb j (s .count)) ((wrapped (s .next) (s .count) + j) % 2 ^ 32) 0
   ticket-due j = firm-case (λ k. entry (s .ticket) k ≡ cond (ltb k (s .count)) ((wrapped (s .next) (s .count) + k) % 2 ^ 32) 0) j
-      (λ l. rw (lt-ltb j (s .count) l) (ticket-is j l ∙ sym (behind-next (s .next) (s .count) j next-lt l (K .queue .few))))
+      (λ l. rw (lt-ltb j (s .count) l) (ticket-is j l ∙ sym (behind-next (s .next) (s .count) j (W .next-lt) l (K .queue .few))))
       (λ g. rw (le-ltb j (s .count) g) (K .queue .past j g .0))
 
   -- the last runner
@@ -204,9 +177,6 @@ module _ (rows : Rows) (s : State) (I : Imaged rows s) where
   row-ran : HasRun (slotAt rows s (s .last)) → (bit (s .«open») (s .last) && ltb 0 (entry (s .run) (s .last))) ≡ true
   row-ran (r, e) = go (bit (s .«open») (s .last)) e
     where
-      opened-same : {p q : ℕ} → opened p ≡ opened q → p ≡ q
-      opened-same e = cc
-
       go : (o : Bool) → cond o (opened (entry (s .run) (s .last))) closed ≡ opened (suc r) → (o && ltb 0 (entry (s .run) (s .last))) ≡ true
       go true e = lt-ltb 0 (entry (s .run) (s .last)) (omega (arith, opened-same e))
       go false e = absurd (closed-not-open e)
@@ -222,13 +192,13 @@ module _ (rows : Rows) (s : State) (I : Imaged rows s) where
   last-passes =
       let T = image .tickets in
       go (ltb (s .last) 16) refl (eqb (s .last) 16) refl (image .last-ran)
-      (last-iff (s .next) (lastOf s) (slotsOf rows s) (firmsOf s) next-lt (T .few) (T .to-next) .1 (image .last-ran, T .first))
+      (last-iff (s .next) (lastOf s) (slotsOf rows s) (firmsOf s) (W .next-lt) (T .few) (T .to-next) .1 (image .last-ran, T .first))
     where
       go : (a : Bool) → ltb (s .last) 16 ≡ a → (x : Bool) → eqb (s .last) 16 ≡ x
           → LastRan (cond a (row-at (s .last)) (cond x (firm-of (entry (s .ticket) 0)) nobody)) (slotsOf rows s) (firmsOf s)
           → lastOk (cond a (row-at (s .last)) (cond x (firm-of (entry (s .ticket) 0)) nobody)) (slotsOf rows s) (firmsOf s) ≡ true
           → cond a (bit (s .«open») (s .last) && ltb 0 (entry (s .run) (s .last))) (cond x (ltb 0 (s .count) && ltb 0 (entry (s .used) 0)) (eqb (s .last) 17)) ≡ true
-      go true p x q h e = row-ran (hold-rows (slotAt rows s) HasRun (s .last) 0 (rows .n) h .1)
+      go true p x q h e = row-ran (holds-rows HasRun (slotAt rows s) (s .last) 0 (rows .n) h .1)
       go false p true q h e = firm-ran (slotsOf rows s) (s .count) e
       go false p false q h e = eq-eqb (s .last) 17 (seventeen (s .last) (ltb-false (s .last) 16 p) (K .last-le) (eqb-false (s .last) 16 q))
         where
@@ -245,8 +215,8 @@ module _ (rows : Rows) (s : State) (I : Imaged rows s) where
     firm = λ j h. says-firm (ltb j (s .count)) (eqb j 0 && eqb 16 (s .last)) (entry (s .budget) j) (entry (s .used) j) (record { there = firm-there j; runs = firm-runs j });
     ticket = λ j h. ticket-due j;
     ranks = once-set (rowAt rows) (rows .n) (K .table .few) ranks-ok;
-    rank-low = λ i h. row-case (λ k. entry (rows .rank) k < 32) i (λ l. omega (arith, rank-lt (rowAt rows) (rows .n) (K .table .few) ranks-ok i l, K .table .few)) (λ g. omega (arith, I .past i g .rank-blank));
-    rank-past = λ i h g. I .past i g .rank-blank;
+    rank-low = λ i h. row-case (λ k. entry (rows .rank) k < 32) i (λ l. omega (arith, rank-lt (rowAt rows) (rows .n) (K .table .few) ranks-ok i l, K .table .few)) (λ g. omega (arith, K .table .past i g .4));
+    rank-past = λ i h g. K .table .past i g .4;
     open-le = known-in (rows .n) (s .«open») (K .table .few) (K .jobs .open-lt) (K .jobs .open-past);
     rested-le = known-in (rows .n) (s .rested) (K .table .few) (K .times .rested-lt) (K .times .rested-past);
     last-ok = last-passes;

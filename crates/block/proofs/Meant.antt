@@ -19,11 +19,12 @@ use Rattle.rules.proofs.Image.{Image}
 use Rattle.dispatch.specs.declared.Rows.{Rows}
 use Rattle.dispatch.specs.declared.State.{State}
 use Rattle.dispatch.specs.Meaning.{Kept, ageAt, entry, firmAt, firmsOf, lastOf, rowAt, rowsFrom, slotAt, slotsOf, stationOf, wrapped}
-use Rattle.dispatch.proofs.Positions.{length-rows}
+use Rattle.dispatch.proofs.Bools.{or-yes}
+use Rattle.dispatch.proofs.Positions.{length-rows, map-rows, rows-all}
 use Rattle.block.specs.Layout.{Long}
-use Rattle.block.specs.Image.{Blank, Imaged}
+use Rattle.block.specs.Image.{Imaged}
 use Rattle.block.proofs.Bits.{in-known}
-use Rattle.block.proofs.Entered.{entry-out, map-rows, rows-all, rows-hold, rows-run}
+use Rattle.block.proofs.Entered.{entry-out, rows-hold, rows-run}
 use Rattle.block.proofs.Numbers.{FirmSays, RowSays, behind-next, firm-says, row-says, stamp-quiet, stamp-young, to-runs, to-tickets}
 use Rattle.block.proofs.RankSets.{set-once}
 use Rattle.block.proofs.Tested.{Checked, last-low, lastTest}
@@ -61,29 +62,21 @@ module _ (rows : Rows) (s : State) (L : Long rows s) (F : Fit rows s) (C : Check
       let e : 1 - entry (rows .c) i ≡ 0 = rw (lt-ltb i (rows .n) h) at (says i (omega arith) .there) in
       omega arith
 
-  row-past : (i : ℕ) → rows .n ≤ i → Blank rows i
-  row-past i h = by-place (Blank rows i) i 16 inside outside
+  -- no row stands there
+  abbrev Blank : ℕ → Type 0
+  Blank i = (entry (rows .c) i ≡ 0) × (entry (rows .d) i ≡ 0) × (entry (rows .t) i ≡ 0) × (entry (rows .u) i ≡ 0) × (entry (rows .rank) i ≡ 0)
+
+  row-past : (i : ℕ) → rows .n ≤ i → Blank i
+  row-past i h = by-place (Blank i) i 16 inside outside
     where
-      inside : i < 16 → Blank rows i
+      inside : i < 16 → Blank i
       inside l =
           let R = says i l in
           let T-zero : entry (rows .t) i ≡ 0 = rw (le-ltb i (rows .n) h) at (R .there) in
-          record {
-            C-blank = omega (arith, R .C-le, R .D-le);
-            D-blank = omega (arith, R .D-le);
-            T-blank = T-zero;
-            U-blank = omega (arith, R .U-le, R .D-le);
-            rank-blank = C .rank-past i l h;
-          }
+          (omega (arith, R .C-le, R .D-le), omega (arith, R .D-le), T-zero, omega (arith, R .U-le, R .D-le), C .rank-past i l h)
 
-      outside : 16 ≤ i → Blank rows i
-      outside g = record {
-        C-blank = entry-out (rows .c) 16 i (L .c-long) g;
-        D-blank = entry-out (rows .d) 16 i (L .d-long) g;
-        T-blank = entry-out (rows .t) 16 i (L .t-long) g;
-        U-blank = entry-out (rows .u) 16 i (L .u-long) g;
-        rank-blank = entry-out (rows .rank) 16 i (L .rank-long) g;
-      }
+      outside : 16 ≤ i → Blank i
+      outside g = (entry-out (rows .c) 16 i (L .c-long) g, entry-out (rows .d) 16 i (L .d-long) g, entry-out (rows .t) 16 i (L .t-long) g, entry-out (rows .u) 16 i (L .u-long) g, entry-out (rows .rank) 16 i (L .rank-long) g)
 
   open-in : (i : ℕ) → rows .n ≤ i → bit (s .«open») i ≡ false
   open-in i h = in-known (rows .n) (s .«open») i (C .few) (C .open-le) h
@@ -97,10 +90,6 @@ module _ (rows : Rows) (s : State) (L : Long rows s) (F : Fit rows s) (C : Check
   young i h r =
       let few = C .few in
       stamp-young (bit (s .rested) i || not (ltb i (rows .n))) (entry (rows .t) i) (s .clock) (entry (s .stamp) i) (rw (r, lt-ltb i (rows .n) h)) (C .stamp i (omega arith))
-
-  or-true : (a : Bool) → (a || true) ≡ true
-  or-true true = refl
-  or-true false = refl
 
   stamp-zero : (i : ℕ) → (bit (s .rested) i || not (ltb i (rows .n))) ≡ true → entry (s .stamp) i ≡ 0
   stamp-zero i e = by-place (entry (s .stamp) i ≡ 0) i 16
@@ -129,18 +118,14 @@ module _ (rows : Rows) (s : State) (L : Long rows s) (F : Fit rows s) (C : Check
 
   kept : Kept rows s
   kept = record {
-    table = record {
-      few = C .few;
-      rank-lt = F .rank-lt;
-      past = λ i h. let B = row-past i h in (B .C-blank, B .D-blank, B .T-blank, B .U-blank, B .rank-blank);
-    };
+    table = record { few = C .few; rank-lt = F .rank-lt; past = row-past };
     times = record {
       clock-lt = F .clock-lt;
       rested-lt = F .rested-lt;
       stamps = L .stamp-long;
       stamp-lt = F .stamp-lt;
       rested-past = rested-in;
-      stamp-past = λ i h. stamp-zero i (rw (le-ltb i (rows .n) h) (or-true (bit (s .rested) i)));
+      stamp-past = λ i h. stamp-zero i (rw (le-ltb i (rows .n) h) (or-yes (bit (s .rested) i)));
       young = young;
       stamp-blank = λ i e. stamp-zero i (rw e);
     };
@@ -236,22 +221,22 @@ module _ (rows : Rows) (s : State) (L : Long rows s) (F : Fit rows s) (C : Check
   conditions : Image (stationOf rows s)
   unfolding stationOf
   conditions =
-      let slots-are : rowsOf (slotsOf rows s) ≡ rowsFrom (rowAt rows) 0 (rows .n) = map-rows (slotAt rows s) (λ x. x .row) 0 (rows .n) in
+      let slots-are : rowsOf (slotsOf rows s) ≡ rowsFrom (rowAt rows) 0 (rows .n) = map-rows (λ x. x .row) (slotAt rows s) 0 (rows .n) in
       let few = C .few in
       record {
         clock-lt = F .clock-lt;
         table = rw slots-are (record {
           few = rw (length-rows (rowAt rows) 0 (rows .n)) few;
-          narrow = rows-all (rowAt rows) (λ r. r .T < 2 ^ 16) 0 (rows .n) (λ i a b. F .t-lt i);
+          narrow = rows-all (λ r. r .T < 2 ^ 16) (rowAt rows) 0 (rows .n) (λ i a b. F .t-lt i);
           no-fault = tableFault-iff (rowsFrom (rowAt rows) 0 (rows .n)) .1 (
-            rows-all (rowAt rows) RowOk 0 (rows .n) (λ i a b. row-ok i (omega arith)),
+            rows-all RowOk (rowAt rows) 0 (rows .n) (λ i a b. row-ok i (omega arith)),
             set-once (rowAt rows) (rows .n) few (λ i h. C .rank-low i (omega arith)) (C .ranks),
           );
         });
-        good = rows-all (slotAt rows s) Good 0 (rows .n) (λ i a b. good i (omega arith));
+        good = rows-all Good (slotAt rows s) 0 (rows .n) (λ i a b. good i (omega arith));
         runs = rows-run (slotAt rows s) (lastAt (lastOf s)) 0 (rows .n) (λ i a b. runs i (omega arith));
-        firms = rows-all (firmAt s) (λ f. lastTo (lastOf s) (f .ticket) ≡ false → Live f) 0 (s .count) (λ j a b. live j (omega arith));
-        paid = rows-all (firmAt s) (λ f. (1 ≤ f .budget) × (f .run ≤ f .budget) × (f .budget < 2 ^ 16)) 0 (s .count) (λ j a b. paid j (omega arith));
+        firms = rows-all (λ f. lastTo (lastOf s) (f .ticket) ≡ false → Live f) (firmAt s) 0 (s .count) (λ j a b. live j (omega arith));
+        paid = rows-all (λ f. (1 ≤ f .budget) × (f .run ≤ f .budget) × (f .budget < 2 ^ 16)) (firmAt s) 0 (s .count) (λ j a b. paid j (omega arith));
         tickets = record {
           few = rw (length-rows (firmAt s) 0 (s .count)) (C .firms-few);
           next-lt = F .next-lt;
@@ -262,4 +247,4 @@ module _ (rows : Rows) (s : State) (L : Long rows s) (F : Fit rows s) (C : Check
       }
 
   pub imaged : Imaged rows s
-  imaged = record { stored = record { kept = kept; image = ImageIs.image-iff (stationOf rows s) .1 conditions }; long = L; past = row-past }
+  imaged = record { stored = record { kept = kept; image = ImageIs.image-iff (stationOf rows s) .1 conditions }; long = L }

@@ -11,6 +11,7 @@ use native.Mathlib.Omega.{arith}
 use Rattle.rules.specs.Rows.{Row}
 use Rattle.rules.specs.Station.{Firm, closed, opened}
 use Rattle.rules.proofs.Facts.{Runs, TicketsTo, closed-not-open}
+use Rattle.rules.proofs.ImageTests.{opened-same}
 use Rattle.dispatch.specs.Meaning.{rowsFrom, wrapped}
 use Rattle.dispatch.proofs.Positions.{length-rows}
 use Rattle.block.specs.Tests.{firmFault, rowFault, stampFault}
@@ -43,9 +44,6 @@ module _ (live o ran : Bool) (c d t u run : ℕ) where
       (none-or (bitOr (c - d) (d - t)) (u - (d - c)) (none-or (c - d) (d - t) (omega (arith, R .C-le)) (omega (arith, R .D-le))) (omega (arith, R .U-le, R .C-le)))
       (R .there))
       (omega (arith, R .runs))
-
-opened-same : {q r : ℕ} → opened q ≡ opened r → q ≡ r
-opened-same e = cc
 
 -- the ticks run of a row's job
 module _ (r : Row) (U age run : ℕ) where

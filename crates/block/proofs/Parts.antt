@@ -8,8 +8,10 @@ use native.Mathlib.Nat.{mul-suc, mul-zero, one-mul, zero-add}
 use native.Mathlib.Numerals.{add-one}
 use native.Mathlib.Omega.{arith}
 use Rattle.rules.specs.Lists.{All}
+use Rattle.rules.proofs.Fields.{byte-lt}
 use Rattle.dispatch.specs.Meaning.{entry, rowsFrom}
-use Rattle.dispatch.proofs.Entries.{alike-rows, last-rows}
+use Rattle.dispatch.proofs.Entries.{last-rows}
+use Rattle.dispatch.proofs.Positions.{same-rows}
 use Rattle.block.specs.Words.{bytesAt, four, joined, one, quad, quadsAt, two, word, wordsAt}
 use Rattle.block.proofs.Arrays.{joined-append, read-none}
 
@@ -19,12 +21,6 @@ part b at n = take n (drop at b)
 
 pub part-join : (b : List ℕ) (at m n : ℕ) → part b at m ++ part b (at + m) n ≡ part b at (m + n)
 part-join b at m n = rw (take-add m n (drop at b), drop-drop m at b)
-
--- a byte of a list of bytes
-pub byte-lt : (b : List ℕ) → All (λ x. x < 2 ^ 8) b → (i : ℕ) → entry b i < 2 ^ 8
-byte-lt [] h i = omega arith
-byte-lt (x ∷ b) (h, hs) zero = h
-byte-lt (x ∷ b) (h, hs) (suc i) = byte-lt b hs i
 
 module _ (b : List ℕ) (bytes : All (λ x. x < 2 ^ 8) b) where
   pub one-part : (k : ℕ) → k + 1 ≤ length b → one (entry b k) ≡ part b k 1
@@ -72,7 +68,7 @@ module _ (b : List ℕ) (bytes : All (λ x. x < 2 ^ 8) b) where
 
   pub bytes-part : (at n : ℕ) → at + 1 * n ≤ length b → joined one (bytesAt b at n) ≡ part b at (1 * n)
   bytes-part at n h =
-      ap (joined one) (alike-rows (λ i. entry b (at + i)) (λ i. entry b (at + 1 * i)) 0 n (λ i l. rw (one-mul i)))
+      ap (joined one) (same-rows (λ i. entry b (at + 1 * i)) (λ i. entry b (at + i)) 0 n (λ i l h. rw (one-mul i)))
       ∙ array-part (entry b) one 1 one-part at n h
 
 pub zeros-part : (b : List ℕ) (at n : ℕ) → at + n ≤ length b → ((i : ℕ) → i < n → entry b (at + i) ≡ 0) → replicate n 0 ≡ part b at n

@@ -1,10 +1,10 @@
 -- The ranks of n rows as a set are the positions below n exactly when each of 0 to n − 1 is a rank once. Assumes nothing.
 use Prim.Native.Nat.{ℕ, suc, zero, _%_, _+_, _<_, _^_, _≤_}
-use mathlib.Core.Bool.{Bool, cond, false, false≢true, true, _||_}
-use mathlib.Core.List.{List, [], _∷_}
+use mathlib.Core.Bool.{Bool, cond, false, false≢true, true}
+use mathlib.Core.List.{List}
 use mathlib.Core.Logic.{inl, inr, _⊎_}
 use mathlib.Core.Path.{refl, sym, _∙_, _≡_}
-use borrow.Author.Tests.{eq-eqb, eqb-true, lt-ltb, ne-eqb}
+use borrow.Author.Tests.{eq-eqb, eqb-true, lt-ltb}
 use lib.Bits.{bitOr}
 use lib.Dec.{eqb}
 use lib.ListN.{length}
@@ -17,13 +17,15 @@ use Rattle.rules.specs.Rows.{Row}
 use Rattle.rules.specs.Tick.{bit}
 use Rattle.rules.specs.Tables.{RanksOk, ranked}
 use Rattle.rules.proofs.Bools.{or-true}
-use Rattle.rules.proofs.Ranks.{ranks-below}
+use Rattle.rules.proofs.Ranks.{below-few, here, ranks-below, sum-ranked}
 use Rattle.dispatch.specs.Meaning.{rowsFrom}
+use Rattle.dispatch.specs.Sets.{known}
+use Rattle.dispatch.proofs.Bits.{bit-known, bit-one, bit-or, bit-past}
+use Rattle.dispatch.proofs.Bools.{or-yes}
 use Rattle.dispatch.proofs.Entries.{total-rows}
-use Rattle.dispatch.proofs.Positions.{length-rows}
-use Rattle.block.specs.Tests.{known, orOf}
-use Rattle.block.proofs.Bits.{bit-known, bit-one, bit-or, bit-past, known-lt, same-bits}
-use Rattle.block.proofs.Entered.{all-rows}
+use Rattle.dispatch.proofs.Positions.{all-rows, length-rows}
+use Rattle.block.specs.Tests.{orOf}
+use Rattle.block.proofs.Bits.{known-below, same-bits}
 use Rattle.block.proofs.Ors.{or-below}
 
 -- a bit of numbers together
@@ -44,21 +46,14 @@ module _ (f : ℕ → ℕ) (k : ℕ) where
   some-bit zero i h e = absurd (not-suc-le-zero h)
   some-bit (suc n) i h e = go (decLt i n) (some-bit n i)
     where
-      or-r : (a : Bool) → (a || true) ≡ true
-      or-r true = refl
-      or-r false = refl
-
       go : Dec (i < n) → (i < n → bit (f i) k ≡ true → bit (orOf f n) k ≡ true) → bit (bitOr (orOf f n) (f n)) k ≡ true
       go (yes l) ih = rw (bit-or (orOf f n) (f n) k, ih l e)
       go (no m) ih =
           let q : i ≡ n = omega arith in
           let x : bit (f n) k ≡ true = rw q at e in
-          rw (bit-or (orOf f n) (f n) k, x) (or-r (bit (orOf f n) k))
+          rw (bit-or (orOf f n) (f n) k, x) (or-yes (bit (orOf f n) k))
 
 -- sums of 0 and 1
-
-abbrev here : ℕ → ℕ → ℕ
-here x k = cond (eqb x k) 1 0
 
 here-same : (x k : ℕ) → 1 ≤ here x k → x ≡ k
 here-same x k h = go (eqb x k) refl h
@@ -83,29 +78,8 @@ has-sum f (suc n) h = go (decLt 0 (f n)) (has-sum f n)
     go (yes l) ih = (n, omega arith, l)
     go (no m) ih = let (i, l, e) = ih (omega arith) in (i, omega arith, e)
 
-sum-add : (n : ℕ) (g h : ℕ → ℕ) → sum n (λ k. g k + h k) ≡ sum n g + sum n h
-sum-add zero g h = refl
-sum-add (suc n) g h = omega (arith, sum-add n g h)
-
-sum-zero : (n : ℕ) → sum n (λ k. 0) ≡ 0
-sum-zero zero = refl
-sum-zero (suc n) = omega (arith, sum-zero n)
-
-here-out : (n x : ℕ) → n ≤ x → sum n (here x) ≡ 0
-here-out zero x h = refl
-here-out (suc n) x h = rw (ne-eqb x n (omega arith)) (omega (arith, here-out n x (omega arith)))
-
-here-once : (n x : ℕ) → sum n (here x) ≤ 1
-here-once zero x = omega arith
-here-once (suc n) x = go (eqb x n) refl (here-once n x)
-  where
-    go : (b : Bool) → eqb x n ≡ b → sum n (here x) ≤ 1 → sum n (here x) + cond b 1 0 ≤ 1
-    go true e ih = let q : x ≡ n = eqb-true x n e in omega (arith, here-out n x (omega arith))
-    go false e ih = omega arith
-
 ranked-few : (n : ℕ) (rs : List Row) → sum n (λ k. ranked k rs) ≤ length rs
-ranked-few n [] = omega (arith, sum-zero n)
-ranked-few n (r ∷ rs) = omega (arith, sum-add n (here (r .rank)) (λ k. ranked k rs), here-once n (r .rank), ranked-few n rs)
+ranked-few n rs = omega (arith, sum-ranked n rs, below-few n rs)
 
 sum-full : (n : ℕ) (g : ℕ → ℕ) → ((k : ℕ) → k < n → 1 ≤ g k) → n ≤ sum n g
 sum-full zero g h = omega arith
@@ -145,10 +119,10 @@ module _ (g : ℕ → Row) (n : ℕ) (few : n ≤ 16) where
           omega (arith, ranked-is j, sum-has (λ x. here (g x .rank) j) n i a)
 
   pub rank-lt : RanksOk rows → (i : ℕ) → i < n → g i .rank < n
-  rank-lt ok i l = omega (arith, all-rows g (λ r. r .rank < length rows) 0 n i (ranks-below rows ok) (omega arith) (omega arith), length-rows g 0 n)
+  rank-lt ok i l = omega (arith, all-rows (λ r. r .rank < length rows) g 0 n (ranks-below rows ok) i (omega arith) (omega arith), length-rows g 0 n)
 
   pub once-set : RanksOk rows → orOf mark n ≡ known n
-  once-set ok = same-bits n (orOf mark n) (known n) (or-below mark n n low) (known-lt n few) (λ k l. some-bit mark k n (found k l .0) (found k l .1) (found k l .2) ∙ sym (bit-known n k few ∙ lt-ltb k n l))
+  once-set ok = same-bits n (orOf mark n) (known n) (or-below mark n n low) (known-below n few) (λ k l. some-bit mark k n (found k l .0) (found k l .1) (found k l .2) ∙ sym (bit-known n k few ∙ lt-ltb k n l))
     where
       low : (i : ℕ) → i < n → mark i < 2 ^ n
       low i l = let m = rank-lt ok i l in let e : g i .rank % 32 ≡ g i .rank = omega arith in rw e (pow-lt m)

@@ -1,5 +1,5 @@
 -- What is read back from the bytes of numbers and arrays is the numbers and arrays. Assumes nothing.
-use Prim.Native.Nat.{ℕ, suc, zero, _*_, _+_, _<_, _^_}
+use Prim.Native.Nat.{ℕ, suc, _*_, _+_, _<_, _^_}
 use mathlib.Core.List.{List, [], _++_, _∷_, append-assoc}
 use mathlib.Core.Path.{ap, refl, sym, _∙_, _≡_}
 use lib.ListN.{drop, length}
@@ -8,7 +8,7 @@ use native.Mathlib.Nat.{add-assoc, mul-suc, mul-zero, one-mul}
 use native.Mathlib.Omega.{arith}
 use Rattle.rules.specs.Lists.{All}
 use Rattle.dispatch.specs.Meaning.{entry, rowsFrom}
-use Rattle.dispatch.proofs.Entries.{alike-rows}
+use Rattle.dispatch.proofs.Positions.{same-rows, shift-rows}
 use Rattle.block.specs.Words.{bytesAt, four, joined, one, quad, quadsAt, two, word, wordsAt}
 
 -- in a list, from a place on, stands a part, and then others
@@ -18,11 +18,6 @@ pub record From (b : List ℕ) (at : ℕ) (p q : List ℕ) : Type 0 where
 -- what stands behind the part
 pub behind : {b p q : List ℕ} {at : ℕ} (n : ℕ) → From b at p q → length p ≡ n → drop (at + n) b ≡ q
 behind {b} {p} {q} {at} n f l = sym (drop-drop n at b) ∙ ap (drop n) (f .is) ∙ drop-at p q n l
-
-shift-rows : (g : ℕ → ℕ) (i k : ℕ) → rowsFrom g (suc i) k ≡ rowsFrom (λ j. g (suc j)) i k
-unfolding rowsFrom
-shift-rows g i zero = refl
-shift-rows g i (suc k) = ap (λ l. g (suc i) ∷ l) (shift-rows g (suc i) k)
 
 pub entry-drop : (b : List ℕ) (at k : ℕ) → entry b (at + k) ≡ entry (drop at b) k
 entry-drop b at k = sym (getD-drop at b k 0)
@@ -47,13 +42,13 @@ module _ (read : List ℕ → ℕ → ℕ) (bytes : ℕ → List ℕ) (w : ℕ) 
   unfolding rowsFrom joined
   read-joined [] q h = refl
   read-joined (x ∷ xs) q (h, hs) =
-      rw (append-assoc (bytes x) (joined bytes xs) q, mul-zero w, back x (joined bytes xs ++ q) h, shift-rows (λ i. read (bytes x ++ (joined bytes xs ++ q)) (w * i)) 0 (length xs))
-      (ap (λ l. x ∷ l) (alike-rows (λ i. read (bytes x ++ (joined bytes xs ++ q)) (w * suc i)) (λ i. read (joined bytes xs ++ q) (w * i)) 0 (length xs) (λ i l. next x (joined bytes xs ++ q) i)
+      rw (append-assoc (bytes x) (joined bytes xs) q, mul-zero w, back x (joined bytes xs ++ q) h, ← shift-rows (λ i. read (bytes x ++ (joined bytes xs ++ q)) (w * i)) (λ i. read (bytes x ++ (joined bytes xs ++ q)) (w * suc i)) 0 (length xs) (λ i. refl))
+      (ap (λ l. x ∷ l) (same-rows (λ i. read (joined bytes xs ++ q) (w * i)) (λ i. read (bytes x ++ (joined bytes xs ++ q)) (w * suc i)) 0 (length xs) (λ i l h. next x (joined bytes xs ++ q) i)
       ∙ read-joined xs q hs))
 
   array-at : (b q xs : List ℕ) (at n : ℕ) → drop at b ≡ joined bytes xs ++ q → length xs ≡ n → All Fits xs → rowsFrom (λ i. read b (at + w * i)) 0 n ≡ xs
   array-at b q xs at n e l h =
-      alike-rows (λ i. read b (at + w * i)) (λ i. read (joined bytes xs ++ q) (w * i)) 0 n (λ i m. from b at (w * i) ∙ ap (λ d. read d (w * i)) e)
+      same-rows (λ i. read (joined bytes xs ++ q) (w * i)) (λ i. read b (at + w * i)) 0 n (λ i m h. from b at (w * i) ∙ ap (λ d. read d (w * i)) e)
       ∙ rw (← l) (read-joined xs q h)
 
 -- the three widths
@@ -73,7 +68,7 @@ module _ {b q : List ℕ} {at n : ℕ} (xs : List ℕ) where
 
   pub bytes-back : From b at (joined one xs) q → length xs ≡ n → All (λ x. x < 2 ^ 8) xs → bytesAt b at n ≡ xs
   bytes-back f l h =
-      alike-rows (λ i. entry b (at + i)) (λ i. entry b (at + 1 * i)) 0 n (λ i m. rw (one-mul i))
+      same-rows (λ i. entry b (at + 1 * i)) (λ i. entry b (at + i)) 0 n (λ i m h. rw (one-mul i))
       ∙ array-at entry one 1 (λ x. x < 2 ^ 8) entry-drop (λ x. refl) (λ x r g. refl) b q xs at n (f .is) l h
 
 -- entries of a width

@@ -12,13 +12,15 @@ use Rattle.rules.specs.Tick.{bit}
 use Rattle.rules.proofs.Bools.{and-iff}
 use Rattle.rules.proofs.ImageTests.{le-iff}
 use Rattle.dispatch.specs.Meaning.{entry, wrapped}
+use Rattle.dispatch.specs.Sets.{known, others}
 use Rattle.dispatch.specs.declared.Rows.{Rows}
 use Rattle.dispatch.specs.declared.State.{State}
+use Rattle.dispatch.proofs.Bits.{bit-known, bit-or, bit-others, known-lt}
 use Rattle.block.specs.Words.{quad, word, wordsAt}
 use Rattle.block.specs.Layout.{rowsAt, stateAt}
 use Rattle.block.specs.Tests
-use Rattle.block.specs.Tests.{fieldsTest, firmFault, firmMark, freeOk, imageOk, jobsTest, known, orOf, others, queueTest, rankBit, restTest, rowFault, rowMark, stampFault, tableTest, timesTest}
-use Rattle.block.proofs.Bits.{bit-known, bit-or, bit-others, firm-mark, known-16, row-mark}
+use Rattle.block.specs.Tests.{fieldsTest, firmFault, firmMark, freeOk, imageOk, jobsTest, orOf, queueTest, rankBit, restTest, rowFault, rowMark, stampFault, tableTest, timesTest}
+use Rattle.block.proofs.Bits.{firm-mark, row-mark}
 use Rattle.block.proofs.Entered.{entry-is}
 use Rattle.block.proofs.Ors.{faultless, le-or, no-fault, none-or, or-alike, or-below, or-none}
 
@@ -167,7 +169,7 @@ module _ (b : List ℕ) where
         ≡ Tests.stampFaultAt b (bitOr (s .rested) (others (known (rows .n)))) (s .clock) i
     stamp-same i h =
         let e : (bit (s .rested) i || not (ltb i (rows .n))) ≡ bit (bitOr (s .rested) (others (known (rows .n)))) i =
-        sym (bit-or (s .rested) (others (known (rows .n))) i ∙ ap (λ x. bit (s .rested) i || x) (bit-others (known (rows .n)) i (known-16 (rows .n)) h ∙ ap not (bit-known (rows .n) i few))) in
+        sym (bit-or (s .rested) (others (known (rows .n))) i ∙ ap (λ x. bit (s .rested) i || x) (bit-others (known (rows .n)) i (known-lt (rows .n)) h ∙ ap not (bit-known (rows .n) i few))) in
         rw (e, c-at 80 i h, entry-is (λ j. quad b (176 + 4 * j)) 16 i h)
 
     firm-same : (j : ℕ) → j < 8 → firmFault (ltb j (s .count)) (eqb j 0 && eqb 16 (s .last)) (entry (s .budget) j) (entry (s .used) j)

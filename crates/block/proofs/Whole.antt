@@ -6,10 +6,11 @@ use lib.ListN.{length}
 use lib.Seq.{take-all}
 use native.Mathlib.Omega.{arith}
 use Rattle.rules.specs.Lists.{All}
+use Rattle.rules.proofs.Fields.{byte-lt}
 use Rattle.dispatch.specs.Meaning.{entry}
 use Rattle.block.specs.Words.{one}
 use Rattle.block.specs.Layout.{headOf, imageOf, jobsOf, numbersOf, queueOf, reserved, rowsAt, stateAt, tableOf}
-use Rattle.block.proofs.Parts.{byte-lt, bytes-part, four-part, one-part, part, part-join, quads-part, two-part, words-part, zeros-part}
+use Rattle.block.proofs.Parts.{bytes-part, four-part, one-part, part, part-join, quads-part, two-part, words-part, zeros-part}
 
 -- one part before the others
 join : (b : List ℕ) (at m n : ℕ) {p q : List ℕ} → p ≡ part b at m → q ≡ part b (at + m) n → p ++ q ≡ part b at (m + n)

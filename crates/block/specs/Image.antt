@@ -1,28 +1,19 @@
 -- What a block holds, and the promises of decoding and encoding, as types. Assumes nothing.
-use Prim.Native.Nat.{ℕ, _≤_}
+use Prim.Native.Nat.{ℕ}
 use mathlib.Core.List.{List}
 use mathlib.Core.Path.{_≡_}
 use lib.ListN.{length}
 use Rattle.rules.specs.Tables.{Bytes}
 use Rattle.dispatch.specs.declared.Rows.{Rows}
 use Rattle.dispatch.specs.declared.State.{State}
-use Rattle.dispatch.specs.Meaning.{Stored, entry}
+use Rattle.dispatch.specs.Meaning.{Stored}
 use Rattle.block.specs.Layout.{Long, imageOf, stateOn}
 use Rattle.block.specs.Tests.{decodedAs, decodedOf}
 
--- nothing stands past the rows
-pub record Blank (rows : Rows) (i : ℕ) : Type 0 where
-  pub C-blank : entry (rows .c) i ≡ 0
-  pub D-blank : entry (rows .d) i ≡ 0
-  pub T-blank : entry (rows .t) i ≡ 0
-  pub U-blank : entry (rows .u) i ≡ 0
-  pub rank-blank : entry (rows .rank) i ≡ 0
-
--- rows and a state that have an image: they meet document 01's conditions, and what means nothing is 0
+-- rows and a state that have an image: they meet document 01's conditions, what means nothing is 0, and the arrays have the lengths of their types
 pub record Imaged (rows : Rows) (s : State) : Type 0 where
   pub stored : Stored rows s
   pub long : Long rows s
-  pub past : (i : ℕ) → rows .n ≤ i → Blank rows i
 
 pub record BlockPromises : Type 0 where
   -- an image is 512 bytes

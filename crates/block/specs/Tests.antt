@@ -7,21 +7,12 @@ use lib.Dec.{eqb, leb, ltb}
 use lib.ListN.{length, replicate}
 use Rattle.rules.specs.Tick.{bit}
 use Rattle.dispatch.specs.Meaning.{entry, wrapped}
+use Rattle.dispatch.specs.Sets.{known, others}
 use Rattle.dispatch.specs.declared.Rows.{Rows}
 use Rattle.dispatch.specs.declared.State.{State}
 use Rattle.block.specs.declared.Decoded.{Decoded}
 use Rattle.block.specs.Words.{quad, word}
 use Rattle.block.specs.Layout.{rowsAt, stateAt}
-
--- sets of positions
-
--- the positions below n
-abbrev pub known : ℕ → ℕ
-known n = 65535 / 2 ^ (16 - n)
-
--- the positions that are not in the set
-abbrev pub others : ℕ → ℕ
-others set = 65535 - set
 
 -- the last runner as a set: of rows, and of firm jobs, of which only the first can be it
 abbrev pub rowMark : ℕ → ℕ

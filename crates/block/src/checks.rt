@@ -5,7 +5,8 @@ ghost use Prim.Native.Nat.{_-_, _%_, _^_, _≤_, _<_};
 ghost use lib.ListN.{length};
 ghost use Rattle.rules.specs.Tick.{bit};
 ghost use Rattle.dispatch.specs.Meaning.{wrapped};
-ghost use Rattle.block.specs.Tests.{known, others, rowMark, firmMark, rowFault, rowsOk, ranksOnce, ranksLow, ranksBlank, stampFault, stampsOk, firmFault, firmsOk, ticketsOk, lastOk, freeOk, tableTest, jobsTest, timesTest, queueTest, restTest, imageOk};
+ghost use Rattle.dispatch.specs.Sets.{known};
+ghost use Rattle.block.specs.Tests.{rowMark, firmMark, rowFault, rowsOk, ranksOnce, ranksLow, ranksBlank, stampFault, stampsOk, firmFault, firmsOk, ticketsOk, lastOk, freeOk, tableTest, jobsTest, timesTest, queueTest, restTest, imageOk};
 use crate::words;
 
 pub fn is_image(b: &[u8]) -> bool

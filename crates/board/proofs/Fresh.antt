@@ -14,9 +14,10 @@ use Rattle.rules.proofs.Results.{table-promises}
 use Rattle.rules.proofs.Scan.{scan-whole}
 use Rattle.dispatch.specs.Planned.{rowsFor}
 use Rattle.dispatch.specs.Steps.{freshIn}
-use Rattle.dispatch.proofs.PlannedRows.{length-fill, planned-fresh}
+use Rattle.dispatch.proofs.PlannedRows.{planned-fresh}
+use Rattle.table.proofs.Places.{length-fill}
 use Rattle.block.specs.Layout.{Long, imageOf}
-use Rattle.board.proofs.Held.{Held, long-imaged}
+use Rattle.board.proofs.Held.{Held}
 
 module _ (file : List ℕ) (bytes : Bytes file) (ps : List PlannedRow) (is-read : read file ≡ read-as ps) where
   -- the table that was read passes 6 to 10 with this plan, has at most 16 rows, and its numbers have the widths of the file
@@ -52,7 +53,7 @@ module _ (file : List ℕ) (bytes : Bytes file) (ps : List PlannedRow) (is-read 
       record {
         rows = rowsFor ps;
         state = freshIn (rowsFor ps .n);
-        imaged = long-imaged (rowsFor ps) (freshIn (rowsFor ps .n)) long stored;
+        imaged = record { stored = stored; long = long };
         block-is = refl;
         station-is = station-is;
       }

@@ -22,7 +22,7 @@ use Rattle.dispatch.specs.Steps.{tickIn}
 use Rattle.dispatch.proofs.OfferRefine.{offer-refines}
 use Rattle.dispatch.proofs.Refine.{tick-refines}
 use Rattle.block.specs.Image.{Imaged}
-use Rattle.block.specs.Layout.{Long, imageOf, writtenOn}
+use Rattle.block.specs.Layout.{imageOf, writtenOn}
 use Rattle.block.proofs.Results.{block-promises}
 use Rattle.block.specs.Tests.{decodedAs}
 use Rattle.board.specs.declared.OfferAnswer.{OfferAnswer}
@@ -39,34 +39,25 @@ pub record Held (b : List ℕ) (st : Station) : Type 0 where
   pub block-is : imageOf rows state ≡ b
   pub station-is : stationOf rows state ≡ st
 
--- what may be stored, in arrays of the lengths of their types, has an image
-pub long-imaged : (rows : Rows) (s : State) → Long rows s → Stored rows s → Imaged rows s
-long-imaged rows s L S = record {
-  stored = S;
-  long = L;
-  past = λ i h.
-      let (C, D, T, U, rank) = S .kept .table .past i h in
-      record { C-blank = C; D-blank = D; T-blank = T; U-blank = U; rank-blank = rank };
-}
-
 -- the table's arrays stay, and the state's have the lengths of what may be stored
 stays-imaged : (rows : Rows) (s s′ : State) → Imaged rows s → Stored rows s′ → Imaged rows s′
 stays-imaged rows s s′ I S =
     let L = I .long in
-    long-imaged rows s′
-    (record {
-      c-long = L .c-long;
-      d-long = L .d-long;
-      t-long = L .t-long;
-      u-long = L .u-long;
-      rank-long = L .rank-long;
-      run-long = S .kept .jobs .runs;
-      stamp-long = S .kept .times .stamps;
-      budget-long = S .kept .queue .budgets;
-      used-long = S .kept .queue .useds;
-      ticket-long = S .kept .queue .tickets;
-    })
-    S
+    record {
+      stored = S;
+      long = record {
+        c-long = L .c-long;
+        d-long = L .d-long;
+        t-long = L .t-long;
+        u-long = L .u-long;
+        rank-long = L .rank-long;
+        run-long = S .kept .jobs .runs;
+        stamp-long = S .kept .times .stamps;
+        budget-long = S .kept .queue .budgets;
+        used-long = S .kept .queue .useds;
+        ticket-long = S .kept .queue .tickets;
+      };
+    }
 
 written-over : (rows : Rows) (s s′ : State) → Imaged rows s → Imaged rows s′ → writtenOn (imageOf rows s) s′ ≡ imageOf rows s′
 unfolding writtenOn

@@ -1,4 +1,3 @@
-pub mod Low
 pub mod Ways
 pub mod Named
 pub mod Held

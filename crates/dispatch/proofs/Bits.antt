@@ -20,7 +20,7 @@ unfoldable at : ℕ → ℕ → Bool
 at zero x = eqb (x % 2) 1
 at (suc i) x = at i (x / 2)
 
-half : (x i : ℕ) → x / 2 / 2 ^ i ≡ x / 2 ^ suc i
+pub half : (x i : ℕ) → x / 2 / 2 ^ i ≡ x / 2 ^ suc i
 half x i = let e : 1 + i ≡ suc i = omega arith in shr-shr x 1 i ∙ ap (λ k. x / 2 ^ k) e
 
 is-at : (i x : ℕ) → bit x i ≡ at i x
@@ -29,7 +29,7 @@ is-at zero x = let e : x / 1 ≡ x = omega arith in rw e
 is-at (suc i) x = rw (sym (half x i)) (is-at i (x / 2))
 
 -- a bit by cases
-two : (P : ℕ → Type 0) (x : ℕ) → x < 2 → P 0 → P 1 → P x
+pub two : (P : ℕ → Type 0) (x : ℕ) → x < 2 → P 0 → P 1 → P x
 two P zero h p q = p
 two P (suc zero) h p q = q
 two P (suc (suc x)) h p q = absurd (not-suc-le-zero (le-of-suc-le-suc (le-of-suc-le-suc h)))

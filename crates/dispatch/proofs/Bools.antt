@@ -17,6 +17,10 @@ pub or-no : (b : Bool) → (b || false) ≡ b
 or-no true = refl
 or-no false = refl
 
+pub or-yes : (b : Bool) → (b || true) ≡ true
+or-yes true = refl
+or-yes false = refl
+
 pub leb-ltb : (a b : ℕ) → leb a b ≡ not (ltb b a)
 leb-ltb a b = go (ltb b a) refl
   where

@@ -1,5 +1,5 @@
--- Lists read off arrays, entry by entry: alike, their total, and one more entry at the end. Assumes nothing.
-use Prim.Native.Nat.{suc, zero, ℕ, _+_, _<_}
+-- Lists read off arrays, entry by entry: their total, and one more entry at the end. Assumes nothing.
+use Prim.Native.Nat.{suc, zero, ℕ, _+_}
 use mathlib.Core.List.{List, [], _++_, _∷_}
 use mathlib.Core.Path.{ap, refl, _∙_, _≡_}
 use native.Mathlib.Nat.{add-suc, add-zero, suc-add, zero-add}
@@ -8,11 +8,6 @@ use Rattle.rules.specs.Lists.{sum, total}
 use Rattle.dispatch.specs.Meaning.{rowsFrom}
 
 module _ {A : Type 0} where
-  pub alike-rows : (g h : ℕ → A) (i k : ℕ) → ((j : ℕ) → j < i + k → g j ≡ h j) → rowsFrom g i k ≡ rowsFrom h i k
-  unfolding rowsFrom
-  alike-rows g h i zero e = refl
-  alike-rows g h i (suc k) e = rw (e i (omega arith), alike-rows g h (suc i) k (λ j l. e j (omega arith)))
-
   pub last-rows : (g : ℕ → A) (i k : ℕ) → rowsFrom g i (suc k) ≡ rowsFrom g i k ++ (g (i + k) ∷ [])
   unfolding rowsFrom
   last-rows g i zero = rw add-zero

@@ -1,4 +1,4 @@
--- Whatever the arrays hold, the rows that a tick's answer names are below 16. Assumes nothing.
+-- Whatever the arrays hold, the rows that a tick's verdict names are below 16. Assumes nothing.
 use Prim.Native.Nat.{ℕ, zero, suc, _+_, _<_, _≤_}
 use mathlib.Core.Bool.{Bool, true, false, cond}
 use mathlib.Core.List.{List}
@@ -8,16 +8,16 @@ use lib.Bits.{bitAnd, bitOr}
 use lib.Dec.{eqb, ltb}
 use borrow.Author.Tests.{ltb-true}
 use Rattle.rules.specs.Tick.{bit}
-use Rattle.dispatch.specs.declared.Answer.{Answer}
 use Rattle.dispatch.specs.declared.Closing.the-variants.{FirmDone, FirmSpent, HardDone, HardSpent, Nothing}
 use Rattle.dispatch.specs.declared.Rows.{Rows}
 use Rattle.dispatch.specs.declared.Runner.the-variants.{Firm, Hard, Idle, Soft}
 use Rattle.dispatch.specs.declared.Band.the-variants.{Lower, Upper}
 use Rattle.dispatch.specs.declared.State.{State}
 use Rattle.dispatch.specs.declared.Ticked.{Ticked}
-use Rattle.dispatch.specs.declared.Verdict.the-variants.{NoneRan, NotReady, Stepped, Unknown}
+use Rattle.dispatch.specs.declared.Verdict.{Verdict}
+use Rattle.dispatch.specs.declared.Verdict.the-variants.{NoneRan, NotReady, Unknown}
 use Rattle.dispatch.specs.declared.sets.Best.{Best}
-use Rattle.dispatch.specs.Below.{AnswerBelow, ClosingBelow, RunnerBelow, VerdictBelow}
+use Rattle.dispatch.specs.Below.{ClosingBelow, RunnerBelow, VerdictBelow}
 use Rattle.dispatch.specs.Meaning.{entry}
 use Rattle.dispatch.specs.Sets.{foldRows, known, least, lowAt, noBest, others}
 use Rattle.dispatch.specs.Steps.{chosenIn, closedBy, closingIn, lowerOf, promotedRows, readied, releasedBy, steppedIn, tickIn}
@@ -76,12 +76,12 @@ chosen-below rows s soft =
     let lowest = fold-below low (low-below (rows .rank) (s .«open»)) 0 16 noBest (omega arith) (λ q. absurd (omega arith)) in
     choice-below (least (promotedRows rows s)) (entry (s .ticket) 0) (foldRows low 0 16 noBest) lowest (ltb (least (promotedRows rows s)) 16) refl (ltb 0 (s .count)) soft
 
-checks-below : (a b c : Bool) (s : State) (i j : ℕ) (r : Ticked) → VerdictBelow (r .verdict)
+checks-below : (i j : ℕ) (a : Bool) → ltb i 16 ≡ a → (b c : Bool) → ltb j 16 ≡ c → (s : State) (r : Ticked) → VerdictBelow (r .verdict)
     → VerdictBelow (cond a (record { verdict = Unknown i; state = s }) (cond b (record { verdict = NoneRan; state = s }) (cond c (record { verdict = NotReady j; state = s }) r)) .verdict)
-checks-below true b c s i j r h = tt
-checks-below false true c s i j r h = tt
-checks-below false false true s i j r h = tt
-checks-below false false false s i j r h = h
+checks-below i j true e b c f s r h = ltb-true i 16 e
+checks-below i j false e true c f s r h = tt
+checks-below i j false e false true f s r h = ltb-true j 16 f
+checks-below i j false e false false f s r h = h
 
 tick-below : (rows : Rows) (s : State) (set : ℕ) (d soft : Bool) → VerdictBelow (tickIn rows s set d soft .verdict)
 unfolding tickIn readied steppedIn
@@ -90,9 +90,9 @@ tick-below rows s set d soft =
     let t = closedBy s closing in
     let unknown = least (bitAnd set (others (known (rows .n)))) in
     let unready = least (bitAnd set (bitOr (t .«open») (others (t .rested)))) in
-    checks-below (ltb unknown 16) (cond d (ltb 16 (s .last)) false) (ltb unready 16) s unknown unready (steppedIn rows t set soft closing)
+    checks-below unknown unready (ltb unknown 16) refl (cond d (ltb 16 (s .last)) false) (ltb unready 16) refl s (steppedIn rows t set soft closing)
     (chosen-below rows (releasedBy t set) soft, closing-below rows s d)
 
--- a tick that was made, and found to be stepped
-pub stepped-below : (rows : Rows) (s : State) (set : ℕ) (d soft : Bool) {r : Ticked} {a : Answer} → r ≡ tickIn rows s set d soft → r .verdict ≡ Stepped a → AnswerBelow a
-stepped-below rows s set d soft e is = subst VerdictBelow (sym (ap (λ r. r .verdict) e) ∙ is) (tick-below rows s set d soft)
+-- a tick that was made, and its verdict
+pub verdict-below : (rows : Rows) (s : State) (set : ℕ) (d soft : Bool) {r : Ticked} {v : Verdict} → r ≡ tickIn rows s set d soft → r .verdict ≡ v → VerdictBelow v
+verdict-below rows s set d soft e is = subst VerdictBelow (sym (ap (λ r. r .verdict) e) ∙ is) (tick-below rows s set d soft)

@@ -24,8 +24,8 @@ use Rattle.dispatch.specs.declared.State.{State}
 use Rattle.dispatch.specs.Meaning.{Kept, Stored, ageAt, entry, firmAt, firmsOf, lastOf, rowsFrom, slotAt, slotsOf, stationOf}
 use Rattle.dispatch.specs.OfferSteps.{claimAt, claimsOf, offerMade, openOf, queuedIn, refusedBy, ticketFor, unrunOf}
 use Rattle.dispatch.specs.OfferAnswers.{OfferIs, offeredOf}
-use Rattle.dispatch.proofs.Entries.{alike-rows, last-rows, total-rows}
-use Rattle.dispatch.proofs.Positions.{length-rows}
+use Rattle.dispatch.proofs.Entries.{last-rows, total-rows}
+use Rattle.dispatch.proofs.Positions.{length-rows, same-rows}
 
 -- the room
 
@@ -87,7 +87,7 @@ module _ (rows : Rows) (s : State) (B : ℕ) (K : Kept rows s) (room : s .count 
   firms-are =
       ap (rowsFrom (firmAt (queuedIn s B)) 0) (add-one (s .count))
       ∙ last-rows (firmAt (queuedIn s B)) 0 (s .count)
-      ∙ rw (zero-add (s .count), firm-new, alike-rows (firmAt (queuedIn s B)) (firmAt s) 0 (s .count) (λ j l. firm-old j (λ e. omega arith)))
+      ∙ rw (zero-add (s .count), firm-new, same-rows (firmAt s) (firmAt (queuedIn s B)) 0 (s .count) (λ j l h. firm-old j (λ e. omega arith)))
 
   station-is : FirstIs (lastOf s) (firmsOf s) → stationOf rows (queuedIn s B) ≡ afterOffer (stationOf rows s) (accept (stationOf rows s) B) .station
   unfolding stationOf

@@ -4,7 +4,6 @@ use mathlib.Core.List.{List, [], map, _∷_}
 use mathlib.Core.Path.{ap, refl, sym, _∙_, _≡_}
 use lib.Dec.{lit<}
 use lib.ListN.{List·getD-eq-default, List·getD-map, getD, length, length-map}
-use native.Mathlib.Decide.{decLt}
 use native.Mathlib.Nat.{add-suc, add-zero, suc-add, zero-add}
 use native.Mathlib.Omega.{arith}
 use Rattle.dispatch.specs.declared.Rows.{Rows}
@@ -17,36 +16,16 @@ use Rattle.rules.specs.Tables.{RowNarrow}
 use Rattle.table.specs.Memory.{fill}
 use Rattle.dispatch.specs.Steps.{freshIn}
 use Rattle.dispatch.specs.Planned.{rowsFor}
-use Rattle.dispatch.proofs.Arrays.{past-end}
 use Rattle.dispatch.proofs.RefineFresh.{fresh-refines}
 use Rattle.rules.proofs.Walks.{all-imp}
-use Rattle.table.proofs.Places.{getD-fill}
+use Rattle.table.proofs.Files.{noRow}
+use Rattle.table.proofs.Places.{column-at}
 
 -- what stands where there is no row
-
-abbrev noRow : Row
-noRow = record { C = 0; D = 0; T = 0; rank = 0 }
-
 abbrev noPlan : PlannedRow
 noPlan = record { row = noRow; R = 0; rounds = 0 }
 
-pub length-fill : (n : ℕ) (l : List ℕ) → length (fill n l) ≡ n
-length-fill zero l = refl
-length-fill (suc n) [] = ap suc (length-fill n [])
-length-fill (suc n) (x ∷ l) = ap suc (length-fill n l)
-
 module _ {A : Type 0} (none : A) where
-  -- a column of sixteen places, at every position
-  column-at : (h : A → ℕ) (l : List A) → h none ≡ 0 → length l ≤ 16 → (i : ℕ) → entry (fill 16 (map h l)) i ≡ h (getD l i none)
-  column-at h l z few i = go (decLt i 16)
-    where
-      go : Dec (i < 16) → entry (fill 16 (map h l)) i ≡ h (getD l i none)
-      go (yes m) = getD-fill 16 (map h l) i m ∙ ap (getD (map h l) i) (sym z) ∙ List·getD-map h l i none
-      go (no m) =
-          past-end (fill 16 (map h l)) i (omega (arith, length-fill 16 (map h l)))
-          ∙ sym z
-          ∙ ap h (sym (List·getD-eq-default l none (omega arith)))
-
   getD-all : (P : A → Type 0) (l : List A) → P none → All P l → (i : ℕ) → P (getD l i none)
   getD-all P [] z p i = z
   getD-all P (a ∷ l) z (p, ps) zero = p

@@ -61,10 +61,10 @@ module _ {A : Type 0} where
       go (yes m) ih = ih m
       go (no m) ih = let e : i ≡ j = omega arith in rw (sym e) p
 
-  pub rows-all : (P : A → Type 0) (g : ℕ → A) (i k : ℕ) → ((j : ℕ) → P (g j)) → All P (rowsFrom g i k)
+  pub rows-all : (P : A → Type 0) (g : ℕ → A) (i k : ℕ) → ((j : ℕ) → i ≤ j → j < i + k → P (g j)) → All P (rowsFrom g i k)
   unfolding rowsFrom
   rows-all P g i zero p = tt
-  rows-all P g i (suc k) p = (p i, rows-all P g (suc i) k p)
+  rows-all P g i (suc k) p = (p i (omega arith) (omega arith), rows-all P g (suc i) k (λ j l h. p j (omega arith) (omega arith)))
 
   pub holds-rows : (P : A → Type 0) (g : ℕ → A) (m i k : ℕ) → Holds P m i (rowsFrom g i k) → (m < i + k) × P (g m)
   unfolding rowsFrom

@@ -67,7 +67,7 @@ module _ (rows : Rows) (ps : List PlannedRow) (L : Laid rows ps) where
     fresh-is-image : isImage (freshStation ps) ≡ true
     fresh-is-image =
         let few : length rs ≤ 16 = rw (rows-are, length-rows (rowAt rows) 0 (rows .n)) (L .table .few) in
-        let thin : All (λ r. r .T < 2 ^ 16) rs = rw rows-are (rows-all (λ r. r .T < 2 ^ 16) (rowAt rows) 0 (rows .n) (L .T-lt)) in
+        let thin : All (λ r. r .T < 2 ^ 16) rs = rw rows-are (rows-all (λ r. r .T < 2 ^ 16) (rowAt rows) 0 (rows .n) (λ j l h. L .T-lt j)) in
         rw is-plan at (fresh-image rs few thin)
 
     pub fresh-refines : (stationOf rows (freshIn (rows .n)) ≡ freshStation ps) × Stored rows (freshIn (rows .n))

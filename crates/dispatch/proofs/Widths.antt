@@ -24,7 +24,7 @@ pub record Widths (rows : Rows) (s : State) : Type 0 where
   pub run-lt : (i : ℕ) → entry (s .run) i < 2 ^ 16
   pub firms-lt : (j : ℕ) → (entry (s .ticket) j < 2 ^ 32) × (entry (s .budget) j < 2 ^ 16) × (entry (s .used) j < 2 ^ 16)
 
-runs-rows : (ran : ℕ → Bool) (g : ℕ → Slot) (i k : ℕ) → AllRuns ran i (rowsFrom g i k) → (j : ℕ) → i ≤ j → j < i + k → Runs (ran j) (g j)
+pub runs-rows : (ran : ℕ → Bool) (g : ℕ → Slot) (i k : ℕ) → AllRuns ran i (rowsFrom g i k) → (j : ℕ) → i ≤ j → j < i + k → Runs (ran j) (g j)
 unfolding rowsFrom
 runs-rows ran g i zero r j l h = absurd (omega arith)
 runs-rows ran g i (suc k) (r, rs) j l h = go (decLe (suc i) j) (λ m. runs-rows ran g (suc i) k rs j m (omega arith))

@@ -1,4 +1,4 @@
--- The rows that an answer of the tick names are below 16. Assumes nothing.
+-- The rows that a verdict of the tick names are below 16. Assumes nothing.
 use Prim.Native.Nat.{_<_}
 use Rattle.dispatch.specs.declared.Answer.{Answer}
 use Rattle.dispatch.specs.declared.Closing.{Closing}
@@ -26,6 +26,6 @@ AnswerBelow a = RunnerBelow (a .runner) × ClosingBelow (a .closing)
 
 abbrev pub VerdictBelow : Verdict → Type 0
 VerdictBelow (Stepped a) = AnswerBelow a
-VerdictBelow (Unknown k) = Unit {0}
+VerdictBelow (Unknown k) = k < 16
 VerdictBelow NoneRan = Unit {0}
-VerdictBelow (NotReady k) = Unit {0}
+VerdictBelow (NotReady k) = k < 16

@@ -1,7 +1,7 @@
 // The dispatcher in memory: what a tick never changes, what it changes, and the tick.
 ghost use mathlib.Core.Path.{_≡_};
 ghost use mathlib.Core.Bool.{Bool};
-ghost use Rattle.dispatch.specs.Steps.{tickIn, freshIn};
+ghost use Rattle.dispatch.specs.Steps.{tickIn};
 
 mod fresh;
 mod numbers;
@@ -9,6 +9,7 @@ pub mod offer;
 mod sets;
 mod steps;
 
+pub use fresh::fresh_state;
 pub use fresh::planned_rows;
 pub use numbers::offer_number;
 pub use numbers::tick_number;
@@ -121,23 +122,4 @@ pub fn tick(rows: Rows, s: State, set: u16, done: bool, soft: bool) -> Ticked
         };
     }
     steps::stepped(rows, closed, set, soft, closing)
-}
-
-// The state of a fresh table of n rows, more than 16 counted as 16: every row rested, the clock at 0, nobody ran.
-pub fn fresh_state(n: usize) -> State
-    ensures { λ r. ⌜ r ≡ freshIn n ⌝ }
-{
-    State {
-        clock: 0,
-        next: 0,
-        open: 0,
-        rested: sets::known_rows(n),
-        last: 17,
-        count: 0,
-        run: [0; 16],
-        stamp: [0; 16],
-        budget: [0; 8],
-        used: [0; 8],
-        ticket: [0; 8],
-    }
 }

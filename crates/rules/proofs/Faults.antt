@@ -1,6 +1,6 @@
 -- The checks 6 to 9: they pass exactly when 1 ≤ C ≤ D ≤ T in every row and the ranks are 0 to n − 1, each once. Assumes nothing.
-use Prim.Native.Nat.{ℕ, suc, _≤_, _<_}
-use mathlib.Core.Bool.{Bool, true, false, cond, _||_, true≢false, false≢true}
+use Prim.Native.Nat.{ℕ, suc, _<_}
+use mathlib.Core.Bool.{Bool, true, false, cond, _||_, false≢true}
 use mathlib.Core.List.{List, [], _∷_}
 use mathlib.Core.Logic.{_↔_}
 use mathlib.Core.Option.{Option, none, some, Option·map, Option·some-ne-none}
@@ -13,6 +13,7 @@ use Rattle.rules.specs.Lists.{All, isNone, orElse}
 use Rattle.rules.specs.Refusals.{Refusal, C-zero, C-over-D, D-over-T, bad-rank, atRow}
 use Rattle.rules.specs.Rows.{Row, used, rowFault, rowsFault, tableFault}
 use Rattle.rules.specs.Tables.{RowOk, RanksOk}
+use Rattle.rules.proofs.Bools.{or-false}
 use Rattle.rules.proofs.Ranks.{RanksNew, ranks-iff}
 
 -- no fault found is the fault none
@@ -25,10 +26,6 @@ pub record Fits (n : ℕ) (earlier : List Row) (r : Row) : Type 0 where
   pub row-ok : RowOk r
   pub rank-lt : r .rank < n
   pub rank-new : used (r .rank) earlier ≡ false
-
-or-false : (a b : Bool) → (a || b) ≡ false → (a ≡ false) × (b ≡ false)
-or-false true b e = absurd (true≢false e)
-or-false false b e = (refl, e)
 
 pub row-fits : (n : ℕ) (earlier : List Row) (r : Row) → rowFault n earlier r ≡ none → Fits n earlier r
 row-fits n earlier r = go (eqb (r .C) 0) refl (ltb (r .D) (r .C)) refl (ltb (r .T) (r .D)) refl (leb n (r .rank) || used (r .rank) earlier) refl

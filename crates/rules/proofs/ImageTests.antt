@@ -39,7 +39,7 @@ others-iff false b p = (λ e q. p .0 e, λ h. p .1 (h refl))
 
 -- hard jobs
 
-opened-same : {q r : ℕ} → opened q ≡ opened r → q ≡ r
+pub opened-same : {q r : ℕ} → opened q ≡ opened r → q ≡ r
 opened-same e = cc
 
 run-iff : (last : Bool) (s : Slot) → (runOk last (s .row .C) (s .job) ≡ true) ↔ Runs last s

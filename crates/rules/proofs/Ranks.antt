@@ -23,15 +23,15 @@ abbrev pub RankBelow : ℕ → Row → Type 0
 RankBelow n r = r .rank < n
 
 -- 1 where the number is k
-abbrev here : ℕ → ℕ → ℕ
+abbrev pub here : ℕ → ℕ → ℕ
 here x k = cond (eqb x k) 1 0
 
 -- 1 where the number is below n
-abbrev under : ℕ → ℕ → ℕ
+abbrev pub under : ℕ → ℕ → ℕ
 under x n = cond (ltb x n) 1 0
 
 -- how many ranks are below n
-abbrev below : ℕ → List Row → ℕ
+abbrev pub below : ℕ → List Row → ℕ
 below n rs = total (λ r. under (r .rank) n) rs
 
 -- sums over 0 to n − 1
@@ -76,7 +76,7 @@ sum-here : (n x : ℕ) → sum n (here x) ≡ under x n
 sum-here zero x = rw (le-ltb x 0 (omega arith)) refl
 sum-here (suc n) x = rw (sum-here n x) (under-suc x n)
 
-sum-ranked : (n : ℕ) (rs : List Row) → sum n (λ k. ranked k rs) ≡ below n rs
+pub sum-ranked : (n : ℕ) (rs : List Row) → sum n (λ k. ranked k rs) ≡ below n rs
 sum-ranked n [] = sum-zero n
 sum-ranked n (r ∷ rs) = omega (arith, sum-add n (here (r .rank)) (λ k. ranked k rs), sum-here n (r .rank), sum-ranked n rs)
 
@@ -84,7 +84,7 @@ below-all : (n : ℕ) (rs : List Row) → All (RankBelow n) rs → below n rs �
 below-all n [] h = refl
 below-all n (r ∷ rs) (h, hs) = rw (lt-ltb (r .rank) n h) (omega (arith, below-all n rs hs))
 
-below-few : (n : ℕ) (rs : List Row) → below n rs ≤ length rs
+pub below-few : (n : ℕ) (rs : List Row) → below n rs ≤ length rs
 below-few n [] = le-refl 0
 below-few n (r ∷ rs) = go (ltb (r .rank) n) (below-few n rs)
   where

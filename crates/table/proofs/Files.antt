@@ -2,11 +2,11 @@
 use Prim.Native.Nat.{ℕ, zero, suc, _+_, _-_, _*_, _≤_, _<_}
 use mathlib.Core.Path.{_≡_, refl, sym, ap, _∙_}
 use mathlib.Core.Bool.{Bool, true, false, cond, _&&_}
-use mathlib.Core.List.{List, [], _∷_, map}
+use mathlib.Core.List.{List, [], _∷_}
 use mathlib.Core.Option.{Option, none, some}
 use native.Mathlib.Omega.{arith}
 use lib.Dec.{eqb}
-use lib.ListN.{length, getD, drop, length-drop, List·getD-map}
+use lib.ListN.{length, getD, drop, length-drop}
 use lib.Seq.{drop-drop}
 use borrow.Author.Tests.{eqb-true}
 use Rattle.rules.specs.Lists.{unless}
@@ -15,11 +15,11 @@ use Rattle.rules.specs.Rows.{Row}
 use Rattle.rules.specs.Bound.{Plan, planned, unplanned, plan}
 use Rattle.rules.specs.Fields.{BadField, fieldFault}
 use Rattle.rules.specs.File.{isRow, tableLength, rowOf, Scan, whole, broken, withFirst, ends, scan, planScan, readScan, read}
-use Rattle.table.specs.Memory.{indexed, fill, rowAt, rowsOf, tableOf, rowsIn}
+use Rattle.table.specs.Memory.{indexed, rowAt, rowsOf, tableOf, rowsIn}
 use Rattle.table.specs.Answers.{fieldUnless, fieldOf, scannedOf, refusedRead, readingOf}
 use Rattle.table.specs.declared.scan.Field.{Field}
 use Rattle.table.specs.declared.scan.Scanned.{Scanned}
-use Rattle.table.proofs.Places.{getD-fill}
+use Rattle.table.proofs.Places.{column-at}
 use Rattle.table.proofs.Fields.{row-facts}
 use Rattle.table.proofs.Verdicts.{plan-keeps}
 
@@ -105,11 +105,9 @@ indexed-getD g d from (a ∷ l) e =
     ap (λ (x : _). x ∷ indexed g (suc from) (length l)) (ap g (sym here) ∙ e 0 (omega arith))
     ∙ ap (λ (r : List _). a ∷ r) (indexed-getD g d (suc from) l (λ i h. ap g (let next : suc from + i ≡ from + suc i = omega arith in next) ∙ e (suc i) (omega arith)))
 
-abbrev noRow : Row
+-- what stands where there is no row
+abbrev pub noRow : Row
 noRow = record { C = 0; D = 0; T = 0; rank = 0 }
-
-column-at : (h : Row → ℕ) (rs : List Row) (i : ℕ) → h noRow ≡ 0 → i < 16 → getD (fill 16 (map h rs)) i 0 ≡ h (getD rs i noRow)
-column-at h rs i z few = getD-fill 16 (map h rs) i few ∙ ap (getD (map h rs) i) (sym z) ∙ List·getD-map h rs i noRow
 
 -- the rows of the table in memory that holds these rows
 pub table-rows : (rs : List Row) → length rs ≤ 16 → rowsOf (tableOf rs) ≡ rs
@@ -121,10 +119,10 @@ table-rows rs few = indexed-getD (rowAt (tableOf rs)) noRow 0 rs (λ i h. same i
         ap (rowAt (tableOf rs)) start
         ∙ (λ k.
         record {
-          C = column-at (λ r. r .C) rs i refl (omega arith) k;
-          D = column-at (λ r. r .D) rs i refl (omega arith) k;
-          T = column-at (λ r. r .T) rs i refl (omega arith) k;
-          rank = column-at (λ r. r .rank) rs i refl (omega arith) k;
+          C = column-at noRow (λ r. r .C) rs refl few i k;
+          D = column-at noRow (λ r. r .D) rs refl few i k;
+          T = column-at noRow (λ r. r .T) rs refl few i k;
+          rank = column-at noRow (λ r. r .rank) rs refl few i k;
         })
 
 -- what is read has at most sixteen rows

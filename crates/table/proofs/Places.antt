@@ -1,11 +1,12 @@
 -- Lists by index and places filled from the front: one more element, and the element at a place. Assumes nothing.
-use Prim.Native.Nat.{ℕ, zero, suc, _+_, _<_}
+use Prim.Native.Nat.{ℕ, zero, suc, _+_, _<_, _≤_}
 use mathlib.Core.Path.{_≡_, refl, sym, ap, _∙_}
 use mathlib.Core.List.{List, [], _∷_, _++_, map}
+use native.Mathlib.Decide.{decLt}
 use native.Mathlib.Nat.{add-zero, not-suc-le-zero}
 use native.Mathlib.Numerals.{add-one}
 use native.Mathlib.Omega.{arith}
-use lib.ListN.{length, getD, set, length-map}
+use lib.ListN.{length, getD, set, length-map, List·getD-eq-default, List·getD-map}
 use Rattle.table.specs.Memory.{indexed, fill}
 
 module _ {A : Type 0} (g : ℕ → A) where
@@ -30,12 +31,28 @@ fill-next (suc n) [] i x e h = ap (λ (k : ℕ). set (0 ∷ fill n []) k x) (sym
 fill-next (suc n) (y ∷ l) i x e h =
     ap (λ (k : ℕ). set (y ∷ fill n l) k x) (sym e) ∙ ap (λ (r : List ℕ). y ∷ r) (fill-next n l (length l) x refl (omega arith))
 
+pub length-fill : (n : ℕ) (l : List ℕ) → length (fill n l) ≡ n
+length-fill zero l = refl
+length-fill (suc n) [] = ap suc (length-fill n [])
+length-fill (suc n) (x ∷ l) = ap suc (length-fill n l)
+
 pub getD-fill : (n : ℕ) (l : List ℕ) (i : ℕ) → i < n → getD (fill n l) i 0 ≡ getD l i 0
 getD-fill zero l i h = absurd (not-suc-le-zero h)
 getD-fill (suc n) [] zero h = refl
 getD-fill (suc n) [] (suc i) h = getD-fill n [] i (omega arith)
 getD-fill (suc n) (y ∷ l) zero h = refl
 getD-fill (suc n) (y ∷ l) (suc i) h = getD-fill n l i (omega arith)
+
+-- a column of sixteen places, at every position
+pub column-at : {A : Type 0} (none : A) (h : A → ℕ) (l : List A) → h none ≡ 0 → length l ≤ 16 → (i : ℕ) → getD (fill 16 (map h l)) i 0 ≡ h (getD l i none)
+column-at none h l z few i = go (decLt i 16)
+  where
+    go : Dec (i < 16) → getD (fill 16 (map h l)) i 0 ≡ h (getD l i none)
+    go (yes m) = getD-fill 16 (map h l) i m ∙ ap (getD (map h l) i) (sym z) ∙ List·getD-map h l i none
+    go (no m) =
+        List·getD-eq-default (fill 16 (map h l)) 0 (omega (arith, length-fill 16 (map h l)))
+        ∙ sym z
+        ∙ ap h (sym (List·getD-eq-default l none (omega arith)))
 
 map-append : {A B : Type 0} (h : A → B) (l m : List A) → map h (l ++ m) ≡ map h l ++ map h m
 map-append h [] m = refl

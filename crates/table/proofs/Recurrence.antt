@@ -2,12 +2,13 @@
 use Prim.Native.Nat.{ℕ, zero, suc, _+_, _-_, _*_, _≤_, _<_}
 use mathlib.Core.Path.{_≡_, refl, sym, ap, _∙_}
 use mathlib.Core.List.{List}
-use native.Mathlib.Nat.{mul-le-mul, mul-le-mul-right, div-lt-iff-lt-mul, le-div-iff-mul-le, div-mul-le-self, add-le-add, le-refl, le-trans}
+use native.Mathlib.Nat.{mul-le-mul, mul-le-mul-right, div-lt-iff-lt-mul, add-le-add, le-refl}
 use native.Mathlib.Numerals.{add-one}
 use native.Mathlib.Omega.{arith}
 use borrow.Author.Tests.{eq-eqb, ne-eqb, lt-ltb, le-ltb}
 use Rattle.rules.specs.Rows.{Row}
 use Rattle.rules.specs.Bound.{ceil, most, f, Bound, bound, none-to-D, iterate, response}
+use Rattle.rules.proofs.Ceil.{ceil-mono}
 use Rattle.table.specs.Memory.{rowAt, aboveOf, Sound}
 use Rattle.table.specs.Answers.{demandOf}
 use Rattle.table.specs.declared.Table.{Table}
@@ -21,14 +22,11 @@ term-le w T C hw ht hc =
 pub demand-next : (tb : Table) (j w : ℕ) → demandOf (aboveOf tb (j + 1)) w ≡ most (rowAt tb j) w + demandOf (aboveOf tb j) w
 demand-next tb j w = ap (λ (k : ℕ). demandOf (aboveOf tb k) w) (add-one j)
 
-ceil-mono : (w v T : ℕ) → w ≤ v → 1 ≤ T → ceil w T ≤ ceil v T
-ceil-mono w v T h t = le-div-iff-mul-le t .1 (le-trans (div-mul-le-self (w + (T - 1)) T) (omega arith))
-
 pub demand-mono : (tb : Table) (i w v : ℕ) → w ≤ v → Sound tb i → demandOf (aboveOf tb i) w ≤ demandOf (aboveOf tb i) v
 demand-mono tb zero w v h ok = le-refl 0
 demand-mono tb (suc i) w v h ok =
     let r = ok i (omega arith) in
-    add-le-add (mul-le-mul-right (rowAt tb i .C) (ceil-mono w v (rowAt tb i .T) h (omega arith))) (demand-mono tb i w v h (λ j q. ok j (omega arith)))
+    add-le-add (mul-le-mul-right (rowAt tb i .C) (ceil-mono (rowAt tb i .T) (omega arith) w v h)) (demand-mono tb i w v h (λ j q. ok j (omega arith)))
 
 -- the iteration, come to w after k rounds
 abbrev pub cameTo : List Row → Row → ℕ → ℕ → Bound

@@ -3,10 +3,10 @@ use mathlib.Core.Path.{_≡_, ap, _∙_}
 use borrow.Author.Needs.{needs}
 use Rattle.dispatch.specs.declared.Verdict.{Verdict}
 use Rattle.dispatch.specs.declared.Verdict.the-variants.{NoneRan, NotReady, Stepped, Unknown}
-use Rattle.dispatch.proofs.NamedRows.{stepped-below}
+use Rattle.dispatch.specs.Below.{VerdictBelow}
+use Rattle.dispatch.proofs.NamedRows.{verdict-below}
 use Rattle.board.specs.Blocks.{tickBlock, verdictOn}
 use Rattle.board.specs.Numbers.{refusedTick}
-use Rattle.board.proofs.Low.{RefusedLow, refused-low}
 use Rattle.board.proofs.Ways.{flag-way, halves, no-image-way, verdict-way}
 use Rattle.board.proofs.heechstjer_tick.Statement.{statement}
 use Rattle.board.proofs.heechstjer_tick.Tie as tie
@@ -20,12 +20,12 @@ way c v e =
     (c .before .before .done-flag .result) (c .before .soft-flag .result) (c .before .before .done-flag .ensures) (c .before .soft-flag .ensures)
     (c .tick .result) (c .tick .ensures) v e
 
--- a row that is refused is below 16
-low : (c : tie.After-tick) (v : Verdict) → c .tick .result .verdict ≡ v → RefusedLow v
-low c v e =
+-- the rows that the verdict names are below 16
+below : (c : tie.After-tick) (v : Verdict) → c .tick .result .verdict ≡ v → VerdictBelow v
+below c v e =
     let x = c .before .before .before .before .before .before .decode .result in
     let a = c .before .before .before .before .before .before .before .before .before .before .args in
-    refused-low (x .rows) (x .state) (a .set) (c .before .before .done-flag .result) (c .before .soft-flag .result) (c .tick .ensures) e
+    verdict-below (x .rows) (x .state) (a .set) (c .before .before .done-flag .result) (c .before .soft-flag .result) (c .tick .ensures) e
 
 refused-tick-requires : tie.Need-refused-tick-requires
 refused-tick-requires c κs = search needs
@@ -57,16 +57,13 @@ write-state-requires c κs = search needs
 stepped-tick-requires : tie.Need-stepped-tick-requires
 stepped-tick-requires c κs =
     let known = c .before .before .before .before .before in
-    let call = known .before .before .before in
-    let x = call .before .before .before .before .before .before .decode .result in
-    let a = call .before .before .before .before .before .before .before .before .before .before .args in
-    stepped-below (x .rows) (x .state) (a .set) (call .before .before .done-flag .result) (call .before .soft-flag .result) (call .tick .ensures) (known .before .verdict .given .1)
+    below (known .before .before .before) (Stepped _) (known .before .verdict .given .1)
 
 enum-known-verdict-2 : tie.Need-enum-known-verdict-2
 enum-known-verdict-2 c = search needs
 
 row-number-requires : tie.Need-row-number-requires
-row-number-requires c κs = low (c .before .before .before) (Unknown _) (c .before .verdict2 .given .1)
+row-number-requires c κs = below (c .before .before .before) (Unknown _) (c .before .verdict2 .given .1)
 
 refused-tick-requires-2 : tie.Need-refused-tick-requires-2
 refused-tick-requires-2 c κs = search needs
@@ -81,7 +78,7 @@ enum-known-verdict-3 : tie.Need-enum-known-verdict-3
 enum-known-verdict-3 c = search needs
 
 row-number-requires-2 : tie.Need-row-number-requires-2
-row-number-requires-2 c κs = low (c .before .before .before) (NotReady _) (c .before .verdict3 .given .1)
+row-number-requires-2 c κs = below (c .before .before .before) (NotReady _) (c .before .verdict3 .given .1)
 
 refused-tick-requires-4 : tie.Need-refused-tick-requires-4
 refused-tick-requires-4 c κs = search needs

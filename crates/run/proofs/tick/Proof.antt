@@ -1,6 +1,6 @@
 -- `tick` meets its contract: refused or not, the state is the dispatcher's; and the rows that its answer names are below 16. Assumes nothing.
 use mathlib.Core.Path.{ap}
-use Rattle.dispatch.proofs.NamedRows.{stepped-below}
+use Rattle.dispatch.proofs.NamedRows.{verdict-below}
 use borrow.Author.Needs.{needs}
 use Rattle.run.proofs.tick.Statement.{statement}
 use Rattle.run.proofs.tick.Tie as tie
@@ -24,7 +24,7 @@ answered-requires : tie.Need-answered-requires
 answered-requires c κs =
     let call = c .before .before .before in
     let a = call .before .before .before .args in
-    stepped-below (a .rows) (a .state) (a .set) (a .done) (a .soft) (call .tick .ensures) (c .before .verdict .given .1)
+    verdict-below (a .rows) (a .state) (a .set) (a .done) (a .soft) (call .tick .ensures) (c .before .verdict .given .1)
 
 returns-2 : tie.Need-returns-2
 returns-2 c = ap (λ r. r .state) (c .before .before .before .before .before .tick .ensures)

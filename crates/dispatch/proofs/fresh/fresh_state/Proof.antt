@@ -1,8 +1,8 @@
--- `dispatch::fresh_state` meets its contract. It is the record that the definition is. Assumes nothing.
+-- `dispatch::fresh::fresh_state` meets its contract. It is the record that the definition is. Assumes nothing.
 use Rattle.dispatch.specs.Steps.{freshIn}
 use borrow.Author.Needs.{needs}
-use Rattle.dispatch.proofs.fresh_state.Statement.{statement}
-use Rattle.dispatch.proofs.fresh_state.Tie as tie
+use Rattle.dispatch.proofs.fresh.fresh_state.Statement.{statement}
+use Rattle.dispatch.proofs.fresh.fresh_state.Tie as tie
 
 known-rows-requires : tie.Need-known-rows-requires
 known-rows-requires c κs = search needs
