@@ -15,6 +15,7 @@ pub record Imaged (rows : Rows) (s : State) : Type 0 where
   pub stored : Stored rows s
   pub long : Long rows s
 
+-- one image a state, and no other list of bytes is accepted
 pub record BlockPromises : Type 0 where
   -- an image is 512 bytes
   pub image-bytes : (rows : Rows) (s : State) → Imaged rows s → Bytes (imageOf rows s) × (length (imageOf rows s) ≡ 512)
