@@ -1,25 +1,26 @@
 /* heechstjer.h: who runs, tick by tick. The C interface of the Heechstjer dispatcher.
  *
  * A kernel plans a hard table into a block of 512 bytes, then asks at every tick who runs, and between
- * ticks offers uploads. Three functions, each with one answer, a struct by value. "Document 01" is the
- * rules paper; C, D, T, U, n, rank, B and d are its letters: ticks of work, deadline, period, promotion
- * time, number of rows, place in the lower band, an upload's budget and its deadline. Rows count from 1.
+ * ticks offers uploads; it can read the table back. Four functions, each with one answer, a struct by value.
+ * "Document 01" is the rules paper; C, D, T, U, n, rank, B and d are its letters: ticks of work, deadline,
+ * period, promotion time, number of rows, place in the lower band, an upload's budget and its deadline.
+ * Rows count from 1.
  *
  * Of every function below:
  *
- * - Nothing is allocated, nothing is global, nothing lent is kept. Table and block are the caller's before,
- *   during and after the call; a table may be thrown away once it is planned.
+ * - Nothing is allocated, nothing is global, nothing lent is kept. Table, block and output are the caller's
+ *   before, during and after the call; a table may be thrown away once it is planned.
  * - A pointer is followed by the number of bytes it points to. It is never NULL, not even with 0 bytes.
- *   Table and block do not overlap. A block needs no alignment.
+ *   Table and block do not overlap, nor do block and output. A block needs no alignment.
  * - The first check that fails, in the order given, is the refusal. Its number stands in the field `refusal`,
  *   where 0 says accepted.
- * - A refusal writes nothing: every byte of the block is as before the call, and the next call is answered
+ * - A refusal writes nothing: every byte of block and output is as before the call, and the next call is answered
  *   as if the refused one had not been made. Every field of the answer that the refusal isn't said to give is 0.
- * - The answer and the block's new bytes depend on the arguments and the block's bytes alone. So a copy of a
+ * - The answer and the bytes written depend on the arguments and the block's bytes alone. So a copy of a
  *   block, at any address, is the same state; and two blocks know nothing of each other.
  * - What is said of being in time holds for a block that only these functions have written since it was planned.
  * - Threads: calls on different blocks may run at the same time, calls on one block may not. Where an interrupt
- *   makes the ticks, hold it off while you make an offer on its block.
+ *   makes the ticks, hold it off while you make an offer on its block or read its table back.
  *
  * The header needs C99 or C++11 and no library: its three includes are there on a board without one.
  */
@@ -63,7 +64,7 @@ enum heechstjer_refusal {
     HEECHSTJER_REFUSED_D_UNDER_B = 16,    /* offer: d < B */
     HEECHSTJER_REFUSED_QUEUE_FULL = 17,   /* offer: 8 firm jobs are queued */
     HEECHSTJER_REFUSED_ROOM_SHORT = 18,   /* offer: the hard rows and the queue leave fewer than B of d ticks */
-    HEECHSTJER_REFUSED_SMALL_OUTPUT = 19, /* given by no function of this header */
+    HEECHSTJER_REFUSED_SMALL_OUTPUT = 19, /* table read back: the output is too small */
     HEECHSTJER_REFUSED_UNKNOWN_FLAG = 20  /* tick: a flag bit other than done and soft */
 };
 
@@ -132,6 +133,12 @@ typedef struct heechstjer_offer_answer {
     uint8_t refusal; /* 0, 11, or 15 to 18 */
 } heechstjer_offer_answer;
 
+/* The answer of reading the table back. */
+typedef struct heechstjer_table_answer {
+    size_t size;     /* accepted: how many bytes were written; 0 if refused */
+    uint8_t refusal; /* 0, 10, 11 or 19 */
+} heechstjer_table_answer;
+
 /* Plans the table of a file into a block, and makes it a fresh state.
  *
  * Accepted: refusal, row, from and size are 0 and all 512 bytes of the block are written. They depend on the
@@ -194,7 +201,22 @@ heechstjer_tick_answer heechstjer_tick(uint8_t *block, size_t block_bytes, uint1
  */
 heechstjer_offer_answer heechstjer_offer(uint8_t *block, size_t block_bytes, uint16_t budget, uint16_t deadline);
 
-/* The same three on a block of the right size, which the caller declares as
+/* Reads the table of a block back: writes it as its file to the front of out. The block is not written.
+ *
+ * Accepted: refusal is 0, and the first size bytes of out are the table's file: 10 for each row, 3 for the end
+ * field. The bytes of out after them stay. Of a block that only these functions have written since it was
+ * planned, it is the file that was planned, byte for byte, whatever has been called since.
+ *
+ * Checks, in this order:
+ *   11  block_bytes is not 512, or the block's bytes are not the image of a state.
+ *   10  the iteration of a row passes D. Tick and offer don't look at this, so it may be met with a block that
+ *       something else has written. Document 01's writer asks 5 to 9 before it, and every image passes them.
+ *   19  out_bytes is below the file's length. HEECHSTJER_MOST_TABLE_BYTES is always enough.
+ * Refused: size is 0.
+ */
+heechstjer_table_answer heechstjer_table(const uint8_t *block, size_t block_bytes, uint8_t *out, size_t out_bytes);
+
+/* The same four on a block of the right size, which the caller declares as
  *     uint8_t block[HEECHSTJER_BLOCK_BYTES];
  * gcc warns of a smaller one. 11 is then given only for its content.
  */
@@ -214,6 +236,12 @@ static inline heechstjer_offer_answer
 heechstjer_offer_in(uint8_t block[HEECHSTJER_BLOCK_BYTES], uint16_t budget, uint16_t deadline)
 {
     return heechstjer_offer(block, HEECHSTJER_BLOCK_BYTES, budget, deadline);
+}
+
+static inline heechstjer_table_answer
+heechstjer_table_in(const uint8_t block[HEECHSTJER_BLOCK_BYTES], uint8_t *out, size_t out_bytes)
+{
+    return heechstjer_table(block, HEECHSTJER_BLOCK_BYTES, out, out_bytes);
 }
 
 /* The release bit of a row: bit row - 1 for 1 to 16, no bit for any other number. */

@@ -38,6 +38,10 @@ HELD(offer_answer_has_8_bytes, sizeof(heechstjer_offer_answer) == 8);
 AT(offer, ticket, 0);
 AT(offer, refusal, 4);
 
+HELD(table_answer_has_16_bytes, sizeof(heechstjer_table_answer) == 16);
+AT(table, size, 0);
+AT(table, refusal, 8);
+
 HELD(longest_table, HEECHSTJER_MOST_TABLE_BYTES == HEECHSTJER_MOST_ROWS * HEECHSTJER_ROW_BYTES + HEECHSTJER_END_BYTES);
 
 /* ---- What the tests are written with ---- */
@@ -210,6 +214,37 @@ static bool turns_down(station *s, unsigned budget, unsigned deadline, unsigned 
     return a.refusal == number && a.ticket == 0 && same_block(s, &before) && guards_stand(s);
 }
 
+/* The table read back into a piece of the heap of just so many bytes: the answer is this number, and this table
+ * of so many bytes is written, none if refused. The rest of the output stays. */
+static bool reads_back(const uint8_t *block, size_t block_bytes, size_t out_bytes, unsigned number,
+                       const uint8_t *table, size_t bytes)
+{
+    uint8_t *out = malloc(out_bytes == 0 ? 1 : out_bytes);
+    if (!out)
+        return false;
+    memset(out, 0x3c, out_bytes);
+    heechstjer_table_answer a = heechstjer_table(block, block_bytes, out, out_bytes);
+    bool holds = a.refusal == number && a.size == bytes && memcmp(out, table, bytes) == 0;
+    for (size_t i = bytes; i < out_bytes; i++)
+        holds = holds && out[i] == 0x3c;
+    free(out);
+    return holds;
+}
+
+/* The block gives back this table, into an output of just its length and into a longer one, and stays as it was. */
+static bool gives_back(const station *s, const uint8_t *table, size_t bytes)
+{
+    station before = *s;
+    return reads_back(s->block, BLOCK, bytes, 0, table, bytes)
+        && reads_back(s->block, BLOCK, bytes + GUARD, 0, table, bytes) && same_block(s, &before) && guards_stand(s);
+}
+
+/* Reading the table back into an output of so many bytes is refused with this number, and writes nothing. */
+static bool keeps_back(const uint8_t *block, size_t block_bytes, size_t out_bytes, unsigned number)
+{
+    return reads_back(block, block_bytes, out_bytes, number, empty_table, 0);
+}
+
 /* Table A after the first two ticks of the listing: both rows released, row 1 has run once. */
 static station at_clock_2(void)
 {
@@ -377,8 +412,8 @@ static void the_table_may_be_thrown_away(void)
 
 /* ---- Refusal 11 ---- */
 
-/* The three functions on a block of this many bytes, which starts as the image of a running state: 11 by each, also
- * where the table, the set, the done flag and the offer are wrong too, and no byte changed. */
+/* The four functions on a block of this many bytes, which starts as the image of a running state: 11 by each, also
+ * where the table, the set, the done flag, the offer and the output are wrong too, and no byte changed. */
 static void length_is_refused(size_t bytes)
 {
     station s = at_clock_2();
@@ -397,6 +432,7 @@ static void length_is_refused(size_t bytes)
         heechstjer_offer_answer good = heechstjer_offer(block, bytes, 2, 4);
         heechstjer_offer_answer bad = heechstjer_offer(block, bytes, 0, 0);
         EXPECT(good.refusal == 11 && good.ticket == 0 && bad.refusal == 11 && bad.ticket == 0);
+        EXPECT(keeps_back(block, bytes, sizeof table_a, 11) && keeps_back(block, bytes, 0, 11));
         EXPECT(memcmp(block, before, held) == 0);
     }
     free(block);
@@ -418,15 +454,17 @@ static void refusal_11_for_a_flipped_bit(void)
         EXPECT(ticks(&s, 0, 4, "refused 20"));
         EXPECT(turns_down(&s, 2, 4, 11));
         EXPECT(turns_down(&s, 0, 0, 11));
+        EXPECT(keeps_back(s.block, BLOCK, sizeof table_a, 11) && keeps_back(s.block, BLOCK, 0, 11));
         s.block[LAST_BYTE] ^= (uint8_t)(1u << bit);
         EXPECT(ticks(&s, 0, 0, "2 L1 -"));
     }
 }
 
-/* Every bit in turn: the block is still an image, or tick and offer both say 11; refused, no byte changes. */
+/* Every bit in turn: the block is still an image, or tick, offer and table all say 11; refused, no byte changes. */
 static void every_flipped_bit_is_judged_once(void)
 {
     station sound = at_clock_2();
+    uint8_t out[HEECHSTJER_MOST_TABLE_BYTES];
     int refused = 0;
     EXPECT(takes(&sound, 2, 4, 0));
     for (int place = 0; place < BLOCK; place++)
@@ -438,6 +476,9 @@ static void every_flipped_bit_is_judged_once(void)
             heechstjer_offer_answer offer = heechstjer_offer_in(t.block, 1, 1);
             EXPECT(well_formed(tick) && guards_stand(&s) && guards_stand(&t));
             EXPECT((tick.refusal == 11) == (offer.refusal == 11));
+            heechstjer_table_answer table = heechstjer_table_in(damaged.block, out, sizeof out);
+            EXPECT((tick.refusal == 11) == (table.refusal == 11));
+            EXPECT(table.size == (table.refusal == 0 ? sizeof table_a : 0));
             EXPECT(tick.refusal == 0 || (tick.refusal == 11 && same_block(&s, &damaged)));
             EXPECT(offer.refusal == 0 || (same_block(&t, &damaged) && offer.ticket == 0));
             refused += tick.refusal == 11;
@@ -660,6 +701,58 @@ static void refusal_17_until_the_first_closes(void)
     EXPECT(turns_down(&s, 1, 65535, 17));
 }
 
+/* ---- The table read back ---- */
+
+static void the_table_comes_back(void)
+{
+    station s = planned(table_a, sizeof table_a), none = planned(empty_table, sizeof empty_table);
+    EXPECT(gives_back(&s, table_a, sizeof table_a));
+    EXPECT(gives_back(&none, empty_table, sizeof empty_table));
+    EXPECT(ticks(&s, 3, 0, "0 L1 -"));
+    EXPECT(gives_back(&s, table_a, sizeof table_a));
+    EXPECT(ticks(&s, 0, SOFT, "1 S -"));
+    EXPECT(takes(&s, 2, 4, 0));
+    EXPECT(ticks(&s, 0, 0, "2 F0 -"));
+    EXPECT(ticks(&s, 1, 0, "refused 14 row 1"));
+    EXPECT(gives_back(&s, table_a, sizeof table_a));
+    EXPECT(ticks(&s, 0, 0, "3 F0 -")); /* as if nobody had asked */
+}
+
+static void sixteen_rows_need_163_bytes(void)
+{
+    uint8_t table[HEECHSTJER_MOST_TABLE_BYTES];
+    uint16_t rows[16][4];
+    for (uint16_t i = 0; i < 16; i++) {
+        rows[i][0] = (uint16_t)(1 + i);
+        rows[i][1] = (uint16_t)(0x1000 + i);
+        rows[i][2] = (uint16_t)(0xffff - i);
+        rows[i][3] = (uint16_t)(15 - i);
+    }
+    size_t bytes = write_table(table, (const uint16_t(*)[4])rows, 16);
+    station s = planned(table, bytes);
+    EXPECT(bytes == 163 && gives_back(&s, table, bytes));
+    EXPECT(keeps_back(s.block, BLOCK, 162, 19));
+}
+
+static void refusal_19_up_to_one_byte_short(void)
+{
+    station s = at_clock_2(), before = s;
+    for (size_t bytes = 0; bytes < sizeof table_a; bytes++)
+        EXPECT(keeps_back(s.block, BLOCK, bytes, 19));
+    EXPECT(same_block(&s, &before) && gives_back(&s, table_a, sizeof table_a));
+}
+
+/* Table A with C 4 and D 8 written over those of row 1 (docs/block.md): an image, but row 2 then passes its D. */
+static void refusal_10_for_a_table_that_nobody_planned(void)
+{
+    station s = planned(table_a, sizeof table_a);
+    s.block[16] = 4;
+    s.block[48] = 8;
+    EXPECT(keeps_back(s.block, BLOCK, HEECHSTJER_MOST_TABLE_BYTES, 10));
+    EXPECT(keeps_back(s.block, BLOCK, 0, 10)); /* before 19 */
+    EXPECT(ticks(&s, 0, 0, "0 I -"));
+}
+
 /* ---- The block ---- */
 
 static void a_copy_is_the_same_state(void)
@@ -784,7 +877,7 @@ static const struct { const char *name; void (*run)(void); } tests[] = {
     {"refusal 11: a block of 511 bytes", refusal_11_for_511_bytes},
     {"refusal 11: a block of 513 bytes", refusal_11_for_513_bytes},
     {"refusal 11: a flipped bit in the reserved part", refusal_11_for_a_flipped_bit},
-    {"every flipped bit is judged alike by tick and offer", every_flipped_bit_is_judged_once},
+    {"every flipped bit is judged alike by tick, offer and table", every_flipped_bit_is_judged_once},
     {"document 01's listing", the_listing_of_document_01},
     {"refusal 12: the lowest row above n", refusal_12_names_the_lowest_row_above_n},
     {"refusal 13: done, and no job ran", refusal_13_where_no_job_ran},
@@ -801,6 +894,10 @@ static const struct { const char *name; void (*run)(void); } tests[] = {
     {"refusal 18: room to the tick", room_to_the_tick},
     {"refusals 15 and 16", refusals_15_and_16},
     {"refusal 17: eight queued, until the first closes", refusal_17_until_the_first_closes},
+    {"the table comes back byte for byte, whatever was called", the_table_comes_back},
+    {"sixteen rows come back in 163 bytes", sixteen_rows_need_163_bytes},
+    {"refusal 19: an output up to one byte short", refusal_19_up_to_one_byte_short},
+    {"refusal 10: the table of a block that nobody planned", refusal_10_for_a_table_that_nobody_planned},
     {"a copy of a block is the same state", a_copy_is_the_same_state},
     {"two blocks know nothing of each other", two_blocks_know_nothing_of_each_other},
     {"hard jobs and uploads are in time, counted from the answers", hard_jobs_and_uploads_are_in_time},

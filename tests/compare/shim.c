@@ -33,3 +33,10 @@ void shim_offer(uint8_t *block, size_t block_bytes, uint16_t budget, uint16_t de
     fields[0] = answer.refusal;
     fields[1] = answer.ticket;
 }
+
+void shim_table(const uint8_t *block, size_t block_bytes, uint8_t *out, size_t out_bytes, uint64_t fields[2])
+{
+    heechstjer_table_answer answer = heechstjer_table(block, block_bytes, out, out_bytes);
+    fields[0] = answer.refusal;
+    fields[1] = answer.size;
+}

@@ -3,6 +3,7 @@ pub mod Named
 pub mod Held
 pub mod Fresh
 pub mod Refusals
+pub mod InForce
 pub mod Shown
 pub mod OneResult
 pub mod Results

@@ -3,7 +3,7 @@ use Prim.Native.Nat.{ℕ}
 use mathlib.Core.List.{List}
 use Rattle.rules.specs.OneResult.{One}
 use Rattle.rules.proofs.OneResult.{one-result}
-use Rattle.board.specs.Blocks.{offerBlock, planBlock, tickBlock}
+use Rattle.board.specs.Blocks.{offerBlock, planBlock, tableBlock, tickBlock}
 
 pub heechstjer-plan : (table block : List ℕ) → One (planBlock table block .answer) × One (planBlock table block .block)
 heechstjer-plan table block = (one-result, one-result)
@@ -13,3 +13,6 @@ heechstjer-tick block set flags = (one-result, one-result)
 
 pub heechstjer-offer : (block : List ℕ) (budget deadline : ℕ) → One (offerBlock block budget deadline .answer) × One (offerBlock block budget deadline .block)
 heechstjer-offer block budget deadline = (one-result, one-result)
+
+pub heechstjer-table : (block out : List ℕ) → One (tableBlock block out .answer) × One (tableBlock block out .block)
+heechstjer-table block out = (one-result, one-result)

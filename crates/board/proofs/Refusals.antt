@@ -7,9 +7,10 @@ use native.Mathlib.Omega.{arith}
 use lib.Dec.{eqb, leb, ltb}
 use lib.ListN.{length}
 use Rattle.rules.specs.Calls.{doneFlag, otherFlag, softFlag}
-use Rattle.rules.specs.File.{Reading, read, read-as, unread}
+use Rattle.rules.specs.File.{Reading, Writing, read, read-as, unread, unwritten, write, written}
 use Rattle.rules.specs.Refusals.{not-image, number, unknown-flag}
 use Rattle.rules.specs.Station.{Station}
+use Rattle.table.specs.Memory.{rowsOf}
 use Rattle.dispatch.specs.declared.Offered.{Offered}
 use Rattle.dispatch.specs.declared.Offered.the-variants.{Refused, Ticket}
 use Rattle.dispatch.specs.declared.OfferMade.{OfferMade}
@@ -22,12 +23,12 @@ use Rattle.dispatch.specs.OfferSteps.{claimsOf, offerMade, refusedBy, ticketFor
 use Rattle.dispatch.specs.Steps.{tickIn}
 use Rattle.block.specs.Tests.{decodedAs, decodedOf}
 use Rattle.block.proofs.Results.{block-promises}
-use Rattle.board.specs.Blocks.{giving, madeOn, offerBlock, offeredOn, planBlock, planOf, tickBlock, tickDecoded, tickedOn, verdictOn}
-use Rattle.board.specs.Numbers.{refusedOffer, refusedPlan, refusedTick}
+use Rattle.board.specs.Blocks.{giving, madeOn, offerBlock, offeredOn, planBlock, planOf, tableBlock, tableIn, tickBlock, tickDecoded, tickedOn, verdictOn, writingOn}
+use Rattle.board.specs.Numbers.{refusedOffer, refusedPlan, refusedTable, refusedTick}
 use Rattle.board.specs.Promises.{Untouched}
 use Rattle.board.proofs.Held.{Held}
 
--- a refusal leaves the block as it was
+-- a refusal leaves the block, or the output, as it was
 
 plan-refused : (file b : List ℕ) → (planBlock file b .answer .refusal ≡ 0 → ⊥) → planBlock file b .block ≡ b
 unfolding planBlock
@@ -77,8 +78,18 @@ module _ (b : List ℕ) (B d : ℕ) where
       go true h = offered-refused (made .offered) (made .state) b h
       go false h = refl
 
+table-refused : (b out : List ℕ) → (tableBlock b out .answer .refusal ≡ 0 → ⊥) → tableBlock b out .block ≡ out
+unfolding tableBlock
+table-refused b out = go (decodedOf b .ok) (write (rowsOf (tableIn (decodedOf b .rows))) out)
+  where
+    go : (ok : Bool) (w : Writing) → (cond ok (writingOn w out) (giving (refusedTable (number not-image)) out) .answer .refusal ≡ 0 → ⊥)
+        → cond ok (writingOn w out) (giving (refusedTable (number not-image)) out) .block ≡ out
+    go true (written size after) h = absurd (h refl)
+    go true (unwritten why) h = refl
+    go false w h = refl
+
 pub untouched : Untouched
-untouched = record { plan-refused = plan-refused; tick-refused = tick-refused; offer-refused = offer-refused }
+untouched = record { plan-refused = plan-refused; tick-refused = tick-refused; offer-refused = offer-refused; table-refused = table-refused }
 
 -- a block that holds a state is not refused with 11
 
@@ -101,7 +112,7 @@ offered-not-11 rows s B d b = go (eqb B 0) (ltb d B) (leb 8 (s .count)) (leb (cl
     go false false false false e = omega arith
 
 module _ {b : List ℕ} {st : Station} (H : Held b st) where
-  decoded : decodedOf b ≡ decodedAs (H .rows) (H .state)
+  pub decoded : decodedOf b ≡ decodedAs (H .rows) (H .state)
   decoded = rw (← (H .block-is)) (block-promises .decode-encode (H .rows) (H .state) (H .imaged))
 
   pub tick-not-11 : (set flags : ℕ) → tickBlock b set flags .answer .refusal ≡ 11 → ⊥

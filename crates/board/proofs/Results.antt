@@ -16,6 +16,7 @@ use Rattle.rules.specs.Promise.{Demand3, HardPromise, OnOffered, OnTicked, True
 use Rattle.rules.specs.Refusals.{not-image, number}
 use Rattle.rules.specs.Rows.{Row}
 use Rattle.rules.specs.Station.{Station, freshStation}
+use Rattle.rules.specs.Tables.{Bytes}
 use Rattle.rules.specs.Tick.{Answer, Ticked, closedAs, done, no-tick, ticked}
 use Rattle.rules.proofs.Calls.{on-call}
 use Rattle.rules.proofs.Results.{demand-3, done-is-told, in-true-time}
@@ -30,6 +31,7 @@ use Rattle.board.specs.Numbers.{refusedPlan}
 use Rattle.board.specs.Promises.{AnyBlock, HardOnBlock, OnBlocks, Promises, UploadOnBlock, blockAfter, blockOn, blockReplies, replyOn}
 use Rattle.board.proofs.Fresh.{fresh-held, planned-rows}
 use Rattle.board.proofs.Held.{Held, after-held, replies-held, step-held}
+use Rattle.board.proofs.InForce.{table-19, table-back}
 use Rattle.board.proofs.Named.{named-back}
 use Rattle.board.proofs.Refusals.{offer-not-11, tick-not-11}
 
@@ -59,7 +61,7 @@ module _ (b : List ℕ) (st : Station) (H : Held b st) where
     never-more = λ later h. rw (answers later h) at (p .never-more later);
   }
 
-module _ (ps : List PlannedRow) (b : List ℕ) (D : Demand3 (map (λ p. p .row) ps) (freshStation ps)) (T : TrueTime (freshStation ps)) (H : Held b (freshStation ps)) where
+module _ (file : List ℕ) (bytes : Bytes file) (ps : List PlannedRow) (is-read : read file ≡ read-as ps) (b : List ℕ) (D : Demand3 (map (λ p. p .row) ps) (freshStation ps)) (T : TrueTime (freshStation ps)) (H : Held b (freshStation ps)) where
   module _ (before : List Call) (short : AllShort before) where
     -- the station when the calls have been made
     abbrev st : Station
@@ -85,7 +87,7 @@ module _ (ps : List PlannedRow) (b : List ℕ) (D : Demand3 (map (λ p. p .row) 
     after-call : (c : Call) → Short c → Held (blockOn (blockAfter b before) c) (step st c .station)
     after-call c h = step-held (blockAfter b before) st c h held .1
 
-  on-blocks : OnBlocks ps b
+  on-blocks : OnBlocks file ps b
   on-blocks = record {
     tick-not-11 = λ before h set flags. tick-not-11 (held before h) set flags;
     offer-not-11 = λ before h B d. offer-not-11 (held before h) B d;
@@ -103,6 +105,8 @@ module _ (ps : List PlannedRow) (b : List ℕ) (D : Demand3 (map (λ p. p .row) 
         rw (← before-are before h) (of-tick before h (λ st′ y. y .at ≡ ticks (replies (freshStation ps) before) % 2 ^ 32) set flags x short (T .clock-is before set flags) a);
     ticket-is = λ before h B d t short a.
         rw (← before-are before h) (of-offer before h (λ st′ u. u ≡ acceptances (replies (freshStation ps) before) % 2 ^ 32) B d t short (T .ticket-is before B d) a);
+    table-back = table-back file bytes ps is-read H;
+    table-19 = table-19 file bytes ps is-read H;
   }
 
 -- of any bytes that decode accepts
@@ -121,12 +125,12 @@ unfolding planBlock
 promises file b bytes e = go (eqb (length b) 512) (read file) refl e
   where
     go : (f : Bool) (R : Reading) → read file ≡ R → cond f (planOf R b) (giving (refusedPlan (number not-image) 0 0) b) .answer .refusal ≡ 0
-        → (ps : List PlannedRow) × (R ≡ read-as ps) × OnBlocks ps (cond f (planOf R b) (giving (refusedPlan (number not-image) 0 0) b) .block)
+        → (ps : List PlannedRow) × (R ≡ read-as ps) × OnBlocks file ps (cond f (planOf R b) (giving (refusedPlan (number not-image) 0 0) b) .block)
     go true (read-as ps) q z =
         let planned = planned-rows file bytes ps q in (
           ps,
           refl,
-          on-blocks ps (imageOf (rowsFor ps) (freshIn (rowsFor ps .n)))
+          on-blocks file bytes ps q (imageOf (rowsFor ps) (freshIn (rowsFor ps .n)))
               (rw planned at (demand-3 (map (λ p. p .row) ps)))
               (rw planned at (in-true-time (map (λ p. p .row) ps)))
               (fresh-held file bytes ps q),

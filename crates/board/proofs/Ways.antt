@@ -7,12 +7,15 @@ use native.Mathlib.Omega.{arith}
 use lib.ListN.{length}
 use borrow.Author.Tests.{eq-eqb, le-leb, lt-leb, ne-eqb}
 use Rattle.rules.specs.Calls.{doneFlag, softFlag}
-use Rattle.rules.specs.File.{Reading, read, read-as, unread}
+use Rattle.rules.specs.File.{Reading, read, read-as, unread, write}
 use Rattle.rules.specs.Refusals.{not-image, number, unknown-flag}
-use Rattle.table.specs.Answers.{readingOf}
+use Rattle.table.specs.Answers.{heldOf, readingOf, writtenOf}
+use Rattle.table.specs.Memory.{rowsOf}
 use Rattle.table.specs.declared.Refusal.{Refusal}
+use Rattle.table.specs.declared.Table.{Table}
 use Rattle.table.specs.declared.TableRead.{TableRead}
 use Rattle.table.specs.declared.Verdict as table
+use Rattle.table.specs.declared.Written.{Written}
 use Rattle.dispatch.specs.declared.Offered.{Offered}
 use Rattle.dispatch.specs.declared.OfferMade.{OfferMade}
 use Rattle.dispatch.specs.declared.Rows.{Rows}
@@ -25,8 +28,8 @@ use Rattle.dispatch.specs.Steps.{freshIn, tickIn}
 use Rattle.block.specs.declared.Decoded.{Decoded}
 use Rattle.block.specs.Layout.{encodedOn, imageOf}
 use Rattle.block.specs.Tests.{decodedOf}
-use Rattle.board.specs.Blocks.{Out, giving, offerBlock, offeredOn, planBlock, planOf, tickBlock, tickDecoded, verdictOn}
-use Rattle.board.specs.Numbers.{donePlan, refusedOffer, refusedPlan, refusedTick}
+use Rattle.board.specs.Blocks.{Out, giving, offerBlock, offeredOn, planBlock, planOf, tableBlock, tableIn, tickBlock, tickDecoded, verdictOn}
+use Rattle.board.specs.Numbers.{donePlan, refusedOffer, refusedPlan, refusedTable, refusedTick, writtenTable}
 
 -- both halves of what a function gives
 pub halves : {A : Type 0} {o : Out A} {a : A} {l : List ℕ} → o ≡ giving a l → (a ≡ o .answer) × (l ≡ o .block)
@@ -61,6 +64,18 @@ module _ (b : List ℕ) (B d : ℕ) (x : Decoded) (e : x ≡ decodedOf b) where
   pub offered-way : x .ok ≡ true → (r : OfferMade) → r ≡ offerMade (x .rows) (x .state) B d → (o : Offered) → r .offered ≡ o → offerBlock b B d ≡ offeredOn o (r .state) b
   unfolding offerBlock
   offered-way good r re o oe = rw (← e, good, ← re, oe)
+
+-- the table read back
+
+module _ (b out : List ℕ) (x : Decoded) (e : x ≡ decodedOf b) where
+  pub no-table-way : x .ok ≡ false → tableBlock b out ≡ giving (refusedTable (number not-image)) out
+  unfolding tableBlock
+  no-table-way bad = rw (← e, bad)
+
+  pub written-way : x .ok ≡ true → (tb : Table) → tb ≡ tableIn (x .rows) → (w : Written) → writtenOf (write (rowsOf tb) out) ≡ w
+      → tableBlock b out ≡ giving (writtenTable w) (heldOf out (write (rowsOf tb) out))
+  unfolding tableBlock
+  written-way good tb is w we = rw (← e, good, ← is, we)
 
 -- planning
 

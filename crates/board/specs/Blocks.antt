@@ -1,18 +1,22 @@
--- The exported functions on byte lists: the block is decoded, the step is taken, its state is written back; a refusal leaves the block as it was. Assumes nothing.
+-- The exported functions on byte lists: the block is decoded, the step is taken, its state is written back, or its table to an output; a refusal leaves all as it was. Assumes nothing.
 use Prim.Native.Nat.{ℕ}
 use mathlib.Core.Bool.{cond}
 use mathlib.Core.List.{List}
 use lib.Dec.{eqb}
 use lib.ListN.{length}
 use Rattle.rules.specs.Calls.{doneFlag, otherFlag, softFlag}
-use Rattle.rules.specs.File.{Reading, read, read-as, unread}
+use Rattle.rules.specs.File.{Reading, Writing, read, read-as, unread, write}
 use Rattle.rules.specs.Refusals.{none-ran, not-image, not-ready, number, unknown-flag, unknown-row}
+use Rattle.table.specs.Answers.{heldOf, writtenOf}
+use Rattle.table.specs.Memory.{rowsOf}
+use Rattle.table.specs.declared.Table.{Table}
 use Rattle.dispatch.specs.OfferSteps.{offerMade}
 use Rattle.dispatch.specs.Planned.{rowsFor}
 use Rattle.dispatch.specs.Steps.{freshIn, tickIn}
 use Rattle.dispatch.specs.declared.Offered.{Offered}
 use Rattle.dispatch.specs.declared.Offered.the-variants.{Refused, Ticket}
 use Rattle.dispatch.specs.declared.OfferMade.{OfferMade}
+use Rattle.dispatch.specs.declared.Rows.{Rows}
 use Rattle.dispatch.specs.declared.State.{State}
 use Rattle.dispatch.specs.declared.Ticked.{Ticked}
 use Rattle.dispatch.specs.declared.Verdict.{Verdict}
@@ -22,10 +26,11 @@ use Rattle.block.specs.Tests.{decodedOf}
 use Rattle.block.specs.declared.Decoded.{Decoded}
 use Rattle.board.specs.declared.OfferAnswer.{OfferAnswer}
 use Rattle.board.specs.declared.PlanAnswer.{PlanAnswer}
+use Rattle.board.specs.declared.TableAnswer.{TableAnswer}
 use Rattle.board.specs.declared.TickAnswer.{TickAnswer}
-use Rattle.board.specs.Numbers.{donePlan, refusedOffer, refusedPlan, refusedTick, rowNumber, steppedTick, takenOffer}
+use Rattle.board.specs.Numbers.{donePlan, refusedOffer, refusedPlan, refusedTable, refusedTick, rowNumber, steppedTick, takenOffer, writtenTable}
 
--- what a function answers, and the block after it
+-- what a function answers, and the block after it; of the table read back, the output
 pub record Out (A : Type 0) : Type 0 where
   pub answer : A
   pub block : List ℕ
@@ -85,3 +90,21 @@ offerDecoded x b B d = cond (x .ok) (madeOn (offerMade (x .rows) (x .state) B d)
 -- the whole offer
 unfoldable pub offerBlock : List ℕ → ℕ → ℕ → Out OfferAnswer
 offerBlock b B d = offerDecoded (decodedOf b) b B d
+
+-- the table read back: 11, then 5 to 10, then 19
+
+-- the rows of the dispatcher as a table in memory
+abbrev pub tableIn : Rows → Table
+tableIn rows = record { n = rows .n; c = rows .c; d = rows .d; t = rows .t; rank = rows .rank }
+
+-- a table that is written leaves its file at the front of the output, a refused one the output as it was
+abbrev pub writingOn : Writing → List ℕ → Out TableAnswer
+writingOn w out = giving (writtenTable (writtenOf w)) (heldOf out w)
+
+-- a block that is no image is refused 11
+abbrev pub tableDecoded : Decoded → List ℕ → Out TableAnswer
+tableDecoded x out = cond (x .ok) (writingOn (write (rowsOf (tableIn (x .rows))) out) out) (giving (refusedTable (number not-image)) out)
+
+-- the whole of it
+unfoldable pub tableBlock : List ℕ → List ℕ → Out TableAnswer
+tableBlock b out = tableDecoded (decodedOf b) out

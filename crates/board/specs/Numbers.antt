@@ -2,6 +2,8 @@
 use Prim.Native.Nat.{ℕ, _+_, _/_, _%_}
 use mathlib.Core.Bool.{cond}
 use lib.Dec.{ltb}
+use Rattle.table.specs.declared.Written.{Written}
+use Rattle.table.specs.declared.Written.the-variants.{Length, Refused}
 use Rattle.dispatch.specs.declared.Answer.{Answer}
 use Rattle.dispatch.specs.declared.Band.{Band}
 use Rattle.dispatch.specs.declared.Band.the-variants.{Upper, Lower}
@@ -13,6 +15,7 @@ use Rattle.board.specs.declared.ClosingNumbers.{ClosingNumbers}
 use Rattle.board.specs.declared.OfferAnswer.{OfferAnswer}
 use Rattle.board.specs.declared.PlanAnswer.{PlanAnswer}
 use Rattle.board.specs.declared.RunnerNumbers.{RunnerNumbers}
+use Rattle.board.specs.declared.TableAnswer.{TableAnswer}
 use Rattle.board.specs.declared.TickAnswer.{TickAnswer}
 
 -- the row at k
@@ -112,3 +115,14 @@ refusedPlan refusal from size = record { from = from; size = size; refusal = ref
 -- an accepted table
 abbrev pub donePlan : PlanAnswer
 donePlan = record { from = 0; size = 0; refusal = 0; row = 0 }
+
+-- the answer of the table read back
+
+-- a refused one
+abbrev pub refusedTable : ℕ → TableAnswer
+refusedTable refusal = record { size = 0; refusal = refusal }
+
+-- how many bytes were written, or the number
+abbrev pub writtenTable : Written → TableAnswer
+writtenTable (Length size) = record { size = size; refusal = 0 }
+writtenTable (Refused refusal) = refusedTable refusal

@@ -1,13 +1,13 @@
 -- What a kernel may rely on, over blocks: calls on the block that planning left, each given the block that the last one left. Assumes nothing.
 -- A block is a list of bytes, and everything is counted from the answers of the exported functions (specs/Blocks.antt).
-use Prim.Native.Nat.{ℕ, _*_, _-_, _%_, _^_, _≤_}
+use Prim.Native.Nat.{ℕ, _*_, _-_, _%_, _^_, _≤_, _<_}
 use mathlib.Core.Bool.{true, cond}
-use mathlib.Core.List.{List, [], _∷_, map}
+use mathlib.Core.List.{List, [], _∷_, _++_, map}
 use mathlib.Core.Logic.{_⊎_}
 use mathlib.Core.Option.{some}
 use mathlib.Core.Path.{_≡_}
 use lib.Dec.{eqb}
-use lib.ListN.{getD, getElem?, length}
+use lib.ListN.{drop, getD, getElem?, length}
 use Rattle.rules.specs.Bound.{PlannedRow, plan, unplanned}
 use Rattle.rules.specs.Calls.{AllShort, Call, Reply, Reported, Short, acceptances, answered, count, doneFlag, namesRow, namesTicket, offer-call, refused, releases, replies, returns, tick-call, ticks, took}
 use Rattle.rules.specs.File.{read, read-as, scan, whole}
@@ -20,8 +20,8 @@ use Rattle.rules.specs.Tick.{Answer, Closing, How, Runner, bit, closedAs, done,
 use Rattle.block.specs.Tests.{decodedOf}
 use Rattle.board.specs.declared.OfferAnswer.{OfferAnswer}
 use Rattle.board.specs.declared.TickAnswer.{TickAnswer}
-use Rattle.board.specs.Numbers.{rowNumber}
-use Rattle.board.specs.Blocks.{offerBlock, planBlock, tickBlock}
+use Rattle.board.specs.Numbers.{refusedTable, rowNumber}
+use Rattle.board.specs.Blocks.{giving, offerBlock, planBlock, tableBlock, tickBlock}
 
 -- THE ANSWERS, read as document 01's replies
 
@@ -79,11 +79,12 @@ abbrev pub blockAfter : List ℕ → List Call → List ℕ
 blockAfter b [] = b
 blockAfter b (c ∷ cs) = blockAfter (blockOn b c) cs
 
--- DEMAND 1, of any bytes at all: where the answer is a refusal, every byte is as before the call
+-- DEMAND 1, of any bytes at all: where the answer is a refusal, every byte of the block, or of the output, is as before the call
 pub record Untouched : Type 0 where
   pub plan-refused : (file b : List ℕ) → (planBlock file b .answer .refusal ≡ 0 → ⊥) → planBlock file b .block ≡ b
   pub tick-refused : (b : List ℕ) (set flags : ℕ) → (tickBlock b set flags .answer .refusal ≡ 0 → ⊥) → tickBlock b set flags .block ≡ b
   pub offer-refused : (b : List ℕ) (B d : ℕ) → (offerBlock b B d .answer .refusal ≡ 0 → ⊥) → offerBlock b B d .block ≡ b
+  pub table-refused : (b out : List ℕ) → (tableBlock b out .answer .refusal ≡ 0 → ⊥) → tableBlock b out .block ≡ out
 
 -- DEMAND 2, of any bytes that decode accepts: they are a state of document 01's conditions, and the replies are those of its dispatcher
 abbrev pub AnyBlock : Type 0
@@ -112,8 +113,8 @@ pub record UploadOnBlock (B d : ℕ) (b : List ℕ) (t : ℕ) : Type 0 where
   -- up to the next acceptance that returns the ticket, no more than B name it
   pub never-more : (later : List Call) → AllShort later → returns t (blockReplies b later) ≡ 0 → count (namesTicket t) (blockReplies b later) ≤ B
 
--- Of the block b that planning left of the table ps, after any calls whose numbers have the widths that C hands in:
-pub record OnBlocks (ps : List PlannedRow) (b : List ℕ) : Type 0 where
+-- Of the block b that planning left of a file with the table ps, after any calls whose numbers have the widths that C hands in:
+pub record OnBlocks (file : List ℕ) (ps : List PlannedRow) (b : List ℕ) : Type 0 where
   -- no call is refused as no image
   pub tick-not-11 : (before : List Call) → AllShort before → (set flags : ℕ) → tickBlock (blockAfter b before) set flags .answer .refusal ≡ 11 → ⊥
   pub offer-not-11 : (before : List Call) → AllShort before → (B d : ℕ) → offerBlock (blockAfter b before) B d .answer .refusal ≡ 11 → ⊥
@@ -135,8 +136,13 @@ pub record OnBlocks (ps : List PlannedRow) (b : List ℕ) : Type 0 where
       → replyOn (blockAfter b before) (tick-call set flags) ≡ answered x → x .at ≡ ticks (blockReplies b before) % 2 ^ 32
   pub ticket-is : (before : List Call) → AllShort before → (B d t : ℕ) → Short (offer-call B d)
       → replyOn (blockAfter b before) (offer-call B d) ≡ took t → t ≡ acceptances (blockReplies b before) % 2 ^ 32
+  -- the table comes back as the file, byte for byte, and bytes after it stay; an output that is shorter is refused 19
+  pub table-back : (before : List Call) → AllShort before → (out : List ℕ) → length file ≤ length out
+      → tableBlock (blockAfter b before) out ≡ giving (record { size = length file; refusal = 0 }) (file ++ drop (length file) out)
+  pub table-19 : (before : List Call) → AllShort before → (out : List ℕ) → length out < length file
+      → tableBlock (blockAfter b before) out ≡ giving (refusedTable (number small-output)) out
 
 -- ALL OF IT: where planning answers 0, the file is a table's, and its block keeps the promises
 abbrev pub Promises : Type 0
 Promises = (file b : List ℕ) → Bytes file → planBlock file b .answer .refusal ≡ 0
-    → (ps : List PlannedRow) × (read file ≡ read-as ps) × OnBlocks ps (planBlock file b .block)
+    → (ps : List PlannedRow) × (read file ≡ read-as ps) × OnBlocks file ps (planBlock file b .block)

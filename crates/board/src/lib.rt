@@ -1,16 +1,19 @@
-// What a C kernel calls: planning, the tick and the upload offer, on numbers and a lent block of 512 bytes.
+// What a C kernel calls: planning, the tick, the upload offer and the table read back, on numbers and a lent block of 512 bytes.
 ghost use mathlib.Core.Path.{_≡_};
 ghost use Prim.Native.Nat.{_<_};
 ghost use Rattle.rules.specs.Calls.{doneFlag, softFlag};
 ghost use Rattle.dispatch.specs.Below.{RunnerBelow, ClosingBelow, AnswerBelow};
 ghost use Rattle.board.specs.Numbers.{bandNumber, runnerNumbers, hardClosing, firmClosing, closingNumbers, rowNumber, rowShown, refusedTick, steppedTick, refusedPlan};
-ghost use Rattle.board.specs.Blocks.{planBlock, tickBlock, offerBlock};
+ghost use Rattle.board.specs.Blocks.{planBlock, tickBlock, offerBlock, tableIn, tableBlock};
 use dispatch::Answer;
 use dispatch::Band;
 use dispatch::Closing;
 use dispatch::Offered;
+use dispatch::Rows;
 use dispatch::Runner;
 use dispatch::Verdict;
+use table::Table;
+use table::Written;
 
 // refusal: 0, or document 01's number. row: of 6 to 10, else 0. from, size: the shown part of the table file, of 1 to 10, else 0.
 #[repr(C)]
@@ -43,6 +46,13 @@ pub struct TickAnswer {
 #[repr(C)]
 pub struct OfferAnswer {
     pub ticket: u32,
+    pub refusal: u8,
+}
+
+// refusal: 0, or document 01's number, and then size is 0.
+#[repr(C)]
+pub struct TableAnswer {
+    pub size: usize,
     pub refusal: u8,
 }
 
@@ -133,6 +143,27 @@ pub extern "C" fn heechstjer_offer(block: &mut [u8], budget: u16, deadline: u16)
     } else {
         OfferAnswer {
             ticket: 0,
+            refusal: 11,
+        }
+    }
+}
+
+// Writes the table of a block as its file to the front of out: 11, then 5 to 10, then 19. A refusal writes nothing.
+#[no_mangle]
+pub extern "C" fn heechstjer_table(block: &[u8], out: &mut [u8]) -> TableAnswer
+    ensures { λ r. ⌜ r ≡ tableBlock (now (block .entry)) (now (out .entry)) .answer ⌝ }
+    ensures { λ _. ⌜ now (out .exit) ≡ tableBlock (now (block .entry)) (now (out .entry)) .block ⌝ }
+{
+    let decoded = block::decode(block);
+    if decoded.ok {
+        let rows = decoded.rows;
+        match table::write_table(table_of(rows), out) {
+            Written::Length(size) => TableAnswer { size, refusal: 0 },
+            Written::Refused(refusal) => TableAnswer { size: 0, refusal },
+        }
+    } else {
+        TableAnswer {
+            size: 0,
             refusal: 11,
         }
     }
@@ -318,5 +349,22 @@ fn firm_closing(ticket: u32, how: u8) -> ClosingNumbers
         row: 0,
         how,
         ticket,
+    }
+}
+
+// The dispatcher's rows without their promotion times.
+fn table_of(rows: Rows) -> Table
+    ensures { λ r. ⌜ r ≡ tableIn rows ⌝ }
+{
+    let c = rows.c;
+    let d = rows.d;
+    let t = rows.t;
+    let rank = rows.rank;
+    Table {
+        n: rows.n,
+        c,
+        d,
+        t,
+        rank,
     }
 }

@@ -3,12 +3,13 @@
 
 use crate::caller::Caller;
 use crate::counts::Counts;
-use crate::pair::{Lent, Pair};
+use crate::pair::{file_bytes, table_back, Lent, Pair};
 use crate::rollover::made_late;
 use crate::tables::{accepted, Kind};
 use crate::{expected, library};
 use reference::block::{decode, encode, BLOCK};
 use reference::random::Random;
+use reference::table::MOST_ROWS;
 
 pub fn case(seed: u64) -> Counts {
     let mut random = Random::new(seed);
@@ -47,7 +48,8 @@ struct Judge {
 }
 
 impl Judge {
-    /// A tick and an offer on a block; then, now and then, some calls more.
+    /// A tick, an offer and the table of a block; then, now and then, some calls
+    /// more.
     fn block(&mut self, block: &[u8; BLOCK]) {
         let station = decode(block);
         self.counts.blocks += 1;
@@ -58,6 +60,7 @@ impl Judge {
         self.tick(block, 0, 0);
         let deadline = self.random.between(0, 40) as u16;
         self.offer(block, 1, deadline);
+        self.table(block);
         if let Some(station) = station.filter(|_| self.random.once_in(20)) {
             let mut pair = Pair::of_station(station);
             let mut caller = Caller::new(Random::new(self.random.below(1 << 30)));
@@ -94,6 +97,15 @@ impl Judge {
         let after = station.map_or(*block, |station| encode(&station));
         assert!(lent == Lent::new(&after), "the block after an offer on {block:02x?}");
         self.counts.call(answer.refusal);
+    }
+
+    /// The table of a block, which only reads it.
+    fn table(&mut self, block: &[u8; BLOCK]) {
+        let mut lent = Lent::new(block);
+        let station = decode(block);
+        let refusal = table_back(lent.block(), station.as_ref(), file_bytes(MOST_ROWS));
+        assert!(lent == Lent::new(block), "the block after reading back {block:02x?}");
+        self.counts.call(refusal);
     }
 
     /// The image with a random damage.
@@ -141,8 +153,9 @@ impl Judge {
             assert_eq!(offer, expected::offer(None, 1, 9), "an offer on {length} bytes");
             let plan = library::plan(&[0x0f, 0, 0], &mut bytes);
             assert_eq!(plan, expected::plan(&[0x0f, 0, 0], length).0, "planning on {length} bytes");
+            let table = table_back(&bytes, None, file_bytes(MOST_ROWS));
             assert!(bytes == before, "{length} bytes were written to");
-            for refusal in [tick.refusal, offer.refusal, plan.refusal] {
+            for refusal in [tick.refusal, offer.refusal, plan.refusal, table] {
                 self.counts.call(refusal);
             }
         }

@@ -31,7 +31,7 @@ pub enum Call {
         budget: u16,
         deadline: u16,
     },
-    /// All three functions on so many bytes, which are not 512.
+    /// All four functions on so many bytes, which are not 512.
     WrongLength {
         bytes: usize,
         flags: u8,

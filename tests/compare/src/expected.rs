@@ -1,9 +1,9 @@
 //! What the header says the answers are, for what the reference answers.
 
-use crate::library::{flag, kind, OfferAnswer, PlanAnswer, TickAnswer};
+use crate::library::{flag, kind, OfferAnswer, PlanAnswer, TableAnswer, TickAnswer};
 use reference::block::BLOCK;
 use reference::station::{Answer, Band, Closing, Job, Refusal, Runner, Station};
-use reference::table::{read_table, Table, ROW_FIELD};
+use reference::table::{read_table, write_table, Row, Table, ROW_FIELD};
 
 /// Planning: 11 for the length only, then the file.
 pub fn plan(table: &[u8], block_bytes: usize) -> (PlanAnswer, Option<Table>) {
@@ -91,5 +91,17 @@ pub fn offer(station: Option<&mut Station>, budget: u16, deadline: u16) -> Offer
     match station.offer(budget, deadline) {
         Ok(ticket) => OfferAnswer { refusal: 0, ticket: ticket as u64 },
         Err(Refusal { number, .. }) => OfferAnswer { refusal: u64::from(number), ticket: 0 },
+    }
+}
+
+/// The table read back: 11, then the writer's own checks.
+pub fn table(station: Option<&Station>, out: &mut [u8]) -> TableAnswer {
+    let Some(station) = station else {
+        return TableAnswer { refusal: 11, size: 0 };
+    };
+    let rows: Vec<Row> = station.rows.iter().map(|hard| hard.row).collect();
+    match write_table(&rows, out) {
+        Ok(size) => TableAnswer { refusal: 0, size: size as u64 },
+        Err(number) => TableAnswer { refusal: u64::from(number), size: 0 },
     }
 }

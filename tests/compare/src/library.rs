@@ -1,4 +1,4 @@
-//! The library's three functions, as the C header gives them.
+//! The library's four functions, as the C header gives them.
 
 /// The answer of planning; 0 where the header says 0.
 #[derive(Clone, Copy, Debug, Default, PartialEq, Eq)]
@@ -30,6 +30,13 @@ pub struct TickAnswer {
 pub struct OfferAnswer {
     pub refusal: u64,
     pub ticket: u64,
+}
+
+/// The answer of reading the table back.
+#[derive(Clone, Copy, Debug, Default, PartialEq, Eq)]
+pub struct TableAnswer {
+    pub refusal: u64,
+    pub size: u64,
 }
 
 /// The kinds, as the header numbers them.
@@ -71,6 +78,13 @@ mod c {
             block_bytes: usize,
             budget: u16,
             deadline: u16,
+            fields: *mut u64,
+        );
+        pub fn shim_table(
+            block: *const u8,
+            block_bytes: usize,
+            out: *mut u8,
+            out_bytes: usize,
             fields: *mut u64,
         );
     }
@@ -119,4 +133,13 @@ pub fn offer(block: &mut [u8], budget: u16, deadline: u16) -> OfferAnswer {
     };
     let [refusal, ticket] = fields;
     OfferAnswer { refusal, ticket }
+}
+
+pub fn table(block: &[u8], out: &mut [u8]) -> TableAnswer {
+    let mut fields = [0; 2];
+    unsafe {
+        c::shim_table(block.as_ptr(), block.len(), out.as_mut_ptr(), out.len(), fields.as_mut_ptr())
+    };
+    let [refusal, size] = fields;
+    TableAnswer { refusal, size }
 }

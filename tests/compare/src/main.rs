@@ -31,8 +31,7 @@ static SUITES: [Suite; 4] = [
         case: calls::case,
         cases: 1400,
         enough: |tried| {
-            let every_refusal =
-                [11, 12, 13, 14, 15, 16, 17, 18, 20].iter().all(|&number| tried.met(number));
+            let every_refusal = (11..=20).all(|number| tried.met(number));
             tried.calls >= 1_000_000
                 && every_refusal
                 && tried.seen.hard >= 10_000
@@ -53,7 +52,10 @@ static SUITES: [Suite; 4] = [
         case: blocks::case,
         cases: 700,
         enough: |tried| {
-            tried.blocks >= 1_000_000 && tried.images >= 100_000 && tried.images < tried.blocks / 2
+            tried.blocks >= 1_000_000
+                && tried.images >= 100_000
+                && tried.images < tried.blocks / 2
+                && tried.met(10)
         },
     },
     Suite {

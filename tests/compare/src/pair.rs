@@ -6,11 +6,11 @@ use crate::watch::Watch;
 use crate::{expected, library};
 use reference::block::{encode, BLOCK};
 use reference::station::{releases_row, HardRow, Station, ROLL_OVER};
-use reference::table::Row;
+use reference::table::{Row, HEADER, MOST_ROWS, ROW_FIELD};
 use std::fmt::Debug;
 
-/// The lent block lies between bytes that nobody may write, at an address that
-/// is no multiple of anything.
+/// What is lent lies between bytes that nobody may write, at an address that is
+/// no multiple of anything.
 const BEFORE: usize = 13;
 const AFTER: usize = LONGEST - BLOCK;
 const GUARD: u8 = 0xa5;
@@ -38,8 +38,34 @@ impl Lent {
     }
 }
 
+/// The table of a block read back into an output of so many bytes; the refusal
+/// it met. The block stands for the station, for none if it is no image.
+pub fn table_back(block: &[u8], station: Option<&Station>, bytes: usize) -> u64 {
+    let mut out = vec![GUARD; BEFORE + bytes + AFTER];
+    let mut want = out.clone();
+    let lent = BEFORE..BEFORE + bytes;
+    let answer = library::table(block, &mut out[lent.clone()]);
+    assert_eq!(
+        answer,
+        expected::table(station, &mut want[lent]),
+        "the table in {bytes} bytes of {block:02x?}"
+    );
+    assert!(out == want, "{bytes} bytes after reading the table back of {block:02x?}");
+    answer.refusal
+}
+
+/// The length of a table's file.
+pub fn file_bytes(rows: usize) -> usize {
+    ROW_FIELD * rows + HEADER
+}
+
+/// After so many calls the table is read back.
+const BETWEEN_TABLES: usize = 16;
+
 pub struct Pair {
     pub station: Station,
+    /// Calls made on it, to know when the table is due.
+    made: usize,
     lent: Lent,
     watch: Option<Watch>,
     pub counts: Counts,
@@ -66,7 +92,7 @@ impl Pair {
     }
 
     fn new(station: Station, lent: Lent) -> Pair {
-        Pair { station, lent, watch: None, counts: Counts::default() }
+        Pair { station, made: 0, lent, watch: None, counts: Counts::default() }
     }
 
     /// Watches demand 3 from here on. Only for what a fresh state leads to.
@@ -92,6 +118,10 @@ impl Pair {
         };
         assert!(accepted || self.lent == before, "{call:?} was refused and wrote");
         self.agree(&call);
+        self.made += 1;
+        if self.made % BETWEEN_TABLES == 0 {
+            self.table();
+        }
     }
 
     /// A tick on both; whether it was accepted.
@@ -140,17 +170,26 @@ impl Pair {
         answer.refusal == 0
     }
 
-    /// All three functions on a slice of a wrong length: 11, but for a tick's
+    /// The table read back, in turn into an output two bytes too short and up to
+    /// one two bytes too long.
+    fn table(&mut self) {
+        let bytes = file_bytes(self.station.rows.len()) - 2 + self.made / BETWEEN_TABLES % 5;
+        self.counts.call(table_back(self.lent.block(), Some(&self.station), bytes));
+        self.agree(&"reading the table back");
+    }
+
+    /// All four functions on a slice of a wrong length: 11, but for a tick's
     /// flags, which are looked at first.
     fn wrong_length(&mut self, bytes: usize, flags: u8) -> bool {
-        let table = [0x0f, 0, 0];
-        let plan = library::plan(&table, self.lent.of_length(bytes));
-        assert_eq!(plan, expected::plan(&table, bytes).0, "planning on {bytes} bytes");
+        let file = [0x0f, 0, 0];
+        let plan = library::plan(&file, self.lent.of_length(bytes));
+        assert_eq!(plan, expected::plan(&file, bytes).0, "planning on {bytes} bytes");
         let tick = library::tick(self.lent.of_length(bytes), 0, flags);
         assert_eq!(tick, expected::tick(None, 0, flags), "a tick on {bytes} bytes");
         let offer = library::offer(self.lent.of_length(bytes), 1, 1);
         assert_eq!(offer, expected::offer(None, 1, 1), "an offer on {bytes} bytes");
-        for refusal in [plan.refusal, tick.refusal, offer.refusal] {
+        let table = table_back(self.lent.of_length(bytes), None, file_bytes(MOST_ROWS));
+        for refusal in [plan.refusal, tick.refusal, offer.refusal, table] {
             self.counts.call(refusal);
         }
         false
