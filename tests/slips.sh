@@ -64,6 +64,7 @@ slip ticket_not_rolled_over rollover reference/src/station.rs 'Ok(number % ROLL_
 
 # Planning and the programs.
 slip floor_for_ceil calls reference/src/table.rs 'w.div_ceil(u128::from(above.t))' '(w / u128::from(above.t))'
+slip just_fits_refused calls reference/src/table.rs 'if output.len() < bytes.len() {' 'if output.len() <= bytes.len() {'
 slip rounds_from_0 programs reference/src/table.rs 'values.len() as u128 - 1' 'values.len() as u128 - 2'
 slip shown_header_only programs reference/src/event.rs 'refuse(20, size)' 'refuse(20, HEADER)'
 

@@ -35,25 +35,30 @@ refusals =
 abbrev pub named : ℕ → Refusal
 named n = getD refusals (n - 1) cut
 
+-- who runs
 abbrev pub runnerIn : TickAnswer → Runner
 runnerIn a =
     cond (eqb (a .runner) 1) (hard (a .«runner_row» - 1) (cond (eqb (a .band) 1) upper lower))
     (cond (eqb (a .runner) 2) (firm (a .ticket))
     (cond (eqb (a .runner) 3) soft idle))
 
+-- how it closed
 abbrev pub howIn : TickAnswer → How
 howIn a = cond (eqb (a .closing) 1) done spent
 
+-- what closed
 abbrev pub closingIn : TickAnswer → Closing
 closingIn a =
     cond (eqb (a .closed) 1) (hard-job (a .«closed_row» - 1) (howIn a))
     (cond (eqb (a .closed) 2) (firm-job (a .«closed_ticket») (howIn a)) nothing)
 
+-- of a tick
 abbrev pub tickReply : TickAnswer → Reply
 tickReply a =
     cond (eqb (a .refusal) 0) (answered (record { at = a .clock; runner = runnerIn a; closing = closingIn a }))
     (refused (atRow (named (a .refusal)) (a .row - 1)))
 
+-- of an offer
 abbrev pub offerReply : OfferAnswer → Reply
 offerReply a = cond (eqb (a .refusal) 0) (took (a .ticket)) (refused (refusal (named (a .refusal))))
 

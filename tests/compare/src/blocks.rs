@@ -9,6 +9,7 @@ use crate::tables::{accepted, Kind};
 use crate::{expected, library};
 use reference::block::{decode, encode, BLOCK};
 use reference::random::Random;
+use reference::station::Station;
 use reference::table::MOST_ROWS;
 
 pub fn case(seed: u64) -> Counts {
@@ -75,13 +76,9 @@ impl Judge {
         let mut lent = Lent::new(block);
         let mut station = decode(block);
         let answer = library::tick(lent.block(), released, flags);
-        assert_eq!(
-            answer,
-            expected::tick(station.as_mut(), released, flags),
-            "tick on {block:02x?}"
-        );
-        let after = station.map_or(*block, |station| encode(&station));
-        assert!(lent == Lent::new(&after), "the block after a tick on {block:02x?}");
+        let want = expected::tick(station.as_mut(), released, flags);
+        assert_eq!(answer, want, "tick on {block:02x?}");
+        compare_left(block, station, lent);
         self.counts.call(answer.refusal);
     }
 
@@ -89,13 +86,9 @@ impl Judge {
         let mut lent = Lent::new(block);
         let mut station = decode(block);
         let answer = library::offer(lent.block(), budget, deadline);
-        assert_eq!(
-            answer,
-            expected::offer(station.as_mut(), budget, deadline),
-            "offer on {block:02x?}"
-        );
-        let after = station.map_or(*block, |station| encode(&station));
-        assert!(lent == Lent::new(&after), "the block after an offer on {block:02x?}");
+        let want = expected::offer(station.as_mut(), budget, deadline);
+        assert_eq!(answer, want, "offer on {block:02x?}");
+        compare_left(block, station, lent);
         self.counts.call(answer.refusal);
     }
 
@@ -160,4 +153,11 @@ impl Judge {
             }
         }
     }
+}
+
+/// What a call left is the image of the station after it, or, where there is none,
+/// the block that it was given.
+fn compare_left(block: &[u8; BLOCK], station: Option<Station>, lent: Lent) {
+    let after = station.map_or(*block, |station| encode(&station));
+    assert!(lent == Lent::new(&after), "after a call on {block:02x?}");
 }

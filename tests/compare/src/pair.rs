@@ -119,7 +119,7 @@ impl Pair {
         assert!(accepted || self.lent == before, "{call:?} was refused and wrote");
         self.agree(&call);
         self.made += 1;
-        if self.made % BETWEEN_TABLES == 0 {
+        if self.made.is_multiple_of(BETWEEN_TABLES) {
             self.table();
         }
     }
