@@ -4,8 +4,11 @@
 #   tests/compare.sh soak MINUTES [SEED]   over other seeds, until the time is over
 #   tests/compare.sh SUITE [SEED]          one suite (calls, rollover, blocks, programs), or one case of it again
 #   tests/compare.sh sleep                 a row that sleeps 2^32 ticks, tick by tick (long)
-# Needs the archive (make lib) and target/bin/plan and target/bin/run (rt check).
+# Proves and builds the library and the programs first, where they are not.
 set -euo pipefail
 root=$(cd "$(dirname "$0")/.." && pwd)
+cd "$root"
+mkdir -p target
+{ rt check plan run && make lib; } > target/compare.out 2>&1 || { cat target/compare.out; exit 1; }
 export CARGO_TARGET_DIR="$root/target/cargo"
 exec cargo run --offline --quiet --manifest-path "$root/tests/compare/Cargo.toml" -- "$@"

@@ -1,6 +1,6 @@
 #!/usr/bin/env bash
 # A comparison that cannot fail shows nothing. This puts one slip at a time into a copy of the reference and asks that the
-# comparison with the library notices it. Needs what tests/compare.sh needs.
+# comparison with the library notices it. Run tests/compare.sh before it.
 set -euo pipefail
 root=$(cd "$(dirname "$0")/.." && pwd)
 tree=$root/target/slips/tree
