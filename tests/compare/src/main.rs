@@ -29,7 +29,7 @@ static SUITES: [Suite; 4] = [
     Suite {
         name: "calls",
         case: calls::case,
-        cases: 1400,
+        cases: 980,
         enough: |tried| {
             let every_refusal = (11..=20).all(|number| tried.met(number));
             tried.calls >= 1_000_000
