@@ -30,7 +30,7 @@ slip() {
         echo "slip $name: not noticed by $suite"
         missed=$((missed + 1))
     else
-        echo "slip $name: noticed by $suite, $(grep -o 'seed [0-9]* failed' "$tree/out")"
+        echo "slip $name: noticed by $suite, $(grep -om 1 'seed [0-9]* failed' "$tree/out")"
     fi
 }
 

@@ -14,6 +14,7 @@ use reference::table::read_table;
 use reference::vectors::table;
 use std::panic::catch_unwind;
 use std::process::ExitCode;
+use std::thread;
 use std::time::{Duration, Instant, SystemTime, UNIX_EPOCH};
 
 struct Suite {
@@ -101,23 +102,36 @@ fn one(suite: &Suite, seed: u64) -> Option<Counts> {
 
 fn gate(suite: &Suite) -> bool {
     let started = Instant::now();
-    let mut tried = Counts::default();
-    for seed in 0..suite.cases {
-        match one(suite, seed) {
-            Some(counts) => tried += counts,
-            None => return false,
-        }
-    }
-    println!(
-        "{}: {} cases, {tried} ({:.0} s)",
-        suite.name,
-        suite.cases,
-        started.elapsed().as_secs_f64()
-    );
-    if !(suite.enough)(&tried) {
+    let Some(tried) = all_cases(suite) else {
+        return false;
+    };
+    let seconds = started.elapsed().as_secs_f64();
+    println!("{}: {} cases, {tried} ({seconds:.0} s)", suite.name, suite.cases);
+    let enough = (suite.enough)(&tried);
+    if !enough {
         eprintln!("{}: all agree, but too little was tried", suite.name);
     }
-    (suite.enough)(&tried)
+    enough
+}
+
+/// Every case of the gate, the seeds dealt out to as many threads as there are
+/// processors; none if one of them fails.
+fn all_cases(suite: &Suite) -> Option<Counts> {
+    let threads = thread::available_parallelism().map_or(1, |number| number.get());
+    let dealt = |first: usize| (first as u64..suite.cases).step_by(threads);
+    thread::scope(|scope| {
+        let run = |first: usize| move || sum(dealt(first).map(|seed| one(suite, seed)));
+        let running: Vec<_> = (0..threads).map(|first| scope.spawn(run(first))).collect();
+        sum(running.into_iter().map(|thread| thread.join().expect("a case that fails is caught")))
+    })
+}
+
+/// All of them added up; none if one is none, and then no later one is asked.
+fn sum(mut counts: impl Iterator<Item = Option<Counts>>) -> Option<Counts> {
+    counts.try_fold(Counts::default(), |mut sum, counts| {
+        sum += counts?;
+        Some(sum)
+    })
 }
 
 fn seed_of_now() -> u64 {

@@ -39,7 +39,7 @@ pub fn case(seed: u64) -> Counts {
     let (table, events) = (kept(&mut random, table), kept(&mut random, events));
     let bytes = |file: &Option<Vec<u8>>| file.clone().unwrap_or_default();
     let want = programs::run(&bytes(&table), &bytes(&events));
-    assert_eq!(run(&table, &events), want, "run on {table:02x?}, {events:02x?}");
+    assert_eq!(run(seed, &table, &events), want, "run on {table:02x?}, {events:02x?}");
     counts.programs += 2;
     counts
 }
@@ -61,9 +61,10 @@ fn plan(table: &[u8]) -> String {
     String::from_utf8(output.stdout).expect("plan prints text")
 }
 
-/// What `run` prints in a folder with these files.
-fn run(table: &Option<Vec<u8>>, events: &Option<Vec<u8>>) -> String {
-    let folder = std::env::temp_dir().join(format!("heechstjer-compare-{}", std::process::id()));
+/// What `run` prints in a folder with these files; no two cases share a folder.
+fn run(seed: u64, table: &Option<Vec<u8>>, events: &Option<Vec<u8>>) -> String {
+    let name = format!("heechstjer-compare-{}-{seed}", std::process::id());
+    let folder = std::env::temp_dir().join(name);
     fs::create_dir_all(&folder).unwrap();
     for (name, file) in [("table.bin", table), ("events.bin", events)] {
         if let Some(bytes) = file {
