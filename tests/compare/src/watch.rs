@@ -235,6 +235,23 @@ mod tests {
     }
 
     #[test]
+    #[should_panic(expected = "runs after it closed")]
+    fn a_job_run_after_it_closed() {
+        let mut watch = watch();
+        watch.tick(1, 0, hard());
+        watch.tick(0, 1, closes_hard(hard(), kind::DONE));
+    }
+
+    #[test]
+    #[should_panic(expected = "closed twice")]
+    fn a_job_closed_twice() {
+        let mut watch = watch();
+        watch.tick(1, 0, hard());
+        watch.tick(0, 1, closes_hard(idle(), kind::DONE));
+        watch.tick(0, 1, closes_hard(idle(), kind::DONE));
+    }
+
+    #[test]
     fn an_upload_in_time() {
         let mut watch = watch();
         watch.offer(2, 3, took(7));
