@@ -8,8 +8,8 @@ use native.Mathlib.Nat.{le-of-lt, mul-suc, mul-zero, zero-add}
 use native.Mathlib.Numerals.{add-one}
 use native.Mathlib.Omega.{arith}
 use Rattle.wire.proofs.Stores.{sets-front, stored-then}
-use Rattle.dispatch.specs.Meaning.{rowsFrom}
-use Rattle.dispatch.proofs.Entries.{last-rows}
+use Rattle.state.specs.Meaning.{rowsFrom}
+use Rattle.state.proofs.Entries.{last-rows}
 use Rattle.block.specs.Words.{Put, joined}
 
 -- read

@@ -8,8 +8,8 @@ use native.Mathlib.Omega.{arith}
 use lib.Pow.{field, high, le-ones, mod-mod-pow, ones-lt, ones-split, pow-pos, shr-shr}
 use lib.Dec.{eqb, eqb·suc-zero}
 use Rattle.rules.specs.Tick.{bit}
-use Rattle.dispatch.specs.Sets.{known}
-use Rattle.dispatch.proofs.Bits.{bit-one, bit-past, half, two}
+use Rattle.state.specs.Sets.{known}
+use Rattle.state.proofs.Bits.{bit-one, bit-past, half, two}
 use Rattle.block.specs.Tests.{firmMark, rowMark}
 
 -- the positions below n

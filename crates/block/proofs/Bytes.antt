@@ -6,10 +6,10 @@ use lib.ListN.{replicate}
 use Rattle.rules.specs.Lists.{All}
 use Rattle.rules.specs.Tables.{Bytes}
 use Rattle.rules.proofs.Fields.{byte-lt}
-use Rattle.dispatch.specs.declared.Rows.{Rows}
-use Rattle.dispatch.specs.declared.State.{State}
-use Rattle.dispatch.specs.Meaning.{entry}
-use Rattle.dispatch.proofs.Positions.{length-rows}
+use Rattle.state.specs.declared.Rows.{Rows}
+use Rattle.state.specs.declared.State.{State}
+use Rattle.state.specs.Meaning.{entry}
+use Rattle.state.proofs.Positions.{length-rows}
 use Rattle.block.specs.Words.{four, joined, one, quad, quadsAt, two, word, wordsAt}
 use Rattle.block.specs.Layout.{Long, headOf, imageOf, jobsOf, queueOf, reserved, rowsAt, stateAt, tableOf}
 use Rattle.block.proofs.Entered.{entry-below}

@@ -10,8 +10,8 @@ use lib.ListN.{length, List·getD-eq-default}
 use Rattle.rules.specs.Station.{Slot}
 use Rattle.rules.proofs.Facts.{AllRuns, Runs}
 use Rattle.rules.proofs.Walks.{Holds}
-use Rattle.dispatch.specs.Meaning.{entry, rowsFrom}
-use Rattle.dispatch.proofs.Positions.{length-rows}
+use Rattle.state.specs.Meaning.{entry, rowsFrom}
+use Rattle.state.proofs.Positions.{length-rows}
 
 -- an entry of an array that is read
 

@@ -16,11 +16,11 @@ use Rattle.rules.proofs.Facts.{HasRun, LastRan, Live, Paid, Runs, closed-not-op
 use Rattle.rules.proofs.Faults.{tableFault-iff}
 use Rattle.rules.proofs.ImageTests.{last-iff, opened-same}
 use Rattle.rules.proofs.Image.{Image, TableOk}
-use Rattle.dispatch.specs.declared.Rows.{Rows}
-use Rattle.dispatch.specs.declared.State.{State}
-use Rattle.dispatch.specs.Meaning.{Kept, ageAt, entry, firmAt, firmsOf, lastOf, rowAt, rowsFrom, slotAt, slotsOf, stationOf, wrapped}
-use Rattle.dispatch.proofs.Positions.{all-rows, holds-rows, map-rows}
-use Rattle.dispatch.proofs.Widths.{Widths, image-of, row-good, runs-rows, widths}
+use Rattle.state.specs.declared.Rows.{Rows}
+use Rattle.state.specs.declared.State.{State}
+use Rattle.state.specs.Meaning.{Kept, ageAt, entry, firmAt, firmsOf, lastOf, rowAt, rowsFrom, slotAt, slotsOf, stationOf, wrapped}
+use Rattle.state.proofs.Positions.{all-rows, holds-rows, map-rows}
+use Rattle.state.proofs.Widths.{Widths, image-of, row-good, runs-rows, widths}
 use Rattle.block.specs.Image.{Imaged}
 use Rattle.block.proofs.Bits.{known-in}
 use Rattle.block.proofs.Meant.{last-at}

@@ -4,8 +4,8 @@ use mathlib.Core.List.{List}
 use mathlib.Core.Path.{refl, _≡_}
 use lib.ListN.{length, length-append, length-replicate}
 use native.Mathlib.Omega.{arith}
-use Rattle.dispatch.specs.declared.Rows.{Rows}
-use Rattle.dispatch.specs.declared.State.{State}
+use Rattle.state.specs.declared.Rows.{Rows}
+use Rattle.state.specs.declared.State.{State}
 use Rattle.block.specs.Words.{four, joined, one, two}
 use Rattle.block.specs.Layout.{Long, headOf, imageOf, jobsOf, queueOf, reserved, tableOf}
 use Rattle.block.proofs.Arrays.{joined-long}

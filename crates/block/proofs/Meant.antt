@@ -16,11 +16,11 @@ use Rattle.rules.proofs.Facts.{FirmRan, FirstIs, Good, HasRun, LastRan, Live, R
 use Rattle.rules.proofs.Faults.{tableFault-iff}
 use Rattle.rules.proofs.ImageIs
 use Rattle.rules.proofs.Image.{Image}
-use Rattle.dispatch.specs.declared.Rows.{Rows}
-use Rattle.dispatch.specs.declared.State.{State}
-use Rattle.dispatch.specs.Meaning.{Kept, ageAt, entry, firmAt, firmsOf, lastOf, rowAt, rowsFrom, slotAt, slotsOf, stationOf, wrapped}
-use Rattle.dispatch.proofs.Bools.{or-yes}
-use Rattle.dispatch.proofs.Positions.{length-rows, map-rows, rows-all}
+use Rattle.state.specs.declared.Rows.{Rows}
+use Rattle.state.specs.declared.State.{State}
+use Rattle.state.specs.Meaning.{Kept, ageAt, entry, firmAt, firmsOf, lastOf, rowAt, rowsFrom, slotAt, slotsOf, stationOf, wrapped}
+use Rattle.state.proofs.Bools.{or-yes}
+use Rattle.state.proofs.Positions.{length-rows, map-rows, rows-all}
 use Rattle.block.specs.Layout.{Long}
 use Rattle.block.specs.Image.{Imaged}
 use Rattle.block.proofs.Bits.{in-known}

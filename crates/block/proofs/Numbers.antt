@@ -12,8 +12,8 @@ use Rattle.rules.specs.Rows.{Row}
 use Rattle.rules.specs.Station.{Firm, closed, opened}
 use Rattle.rules.proofs.Facts.{Runs, TicketsTo, closed-not-open}
 use Rattle.rules.proofs.ImageTests.{opened-same}
-use Rattle.dispatch.specs.Meaning.{rowsFrom, wrapped}
-use Rattle.dispatch.proofs.Positions.{length-rows}
+use Rattle.state.specs.Meaning.{rowsFrom, wrapped}
+use Rattle.state.proofs.Positions.{length-rows}
 use Rattle.block.specs.Tests.{firmFault, rowFault, stampFault}
 use Rattle.block.proofs.Ors.{none-or, or-none}
 

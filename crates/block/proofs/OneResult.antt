@@ -3,8 +3,8 @@ use Prim.Native.Nat.{ℕ}
 use mathlib.Core.List.{List}
 use Rattle.rules.specs.OneResult.{One}
 use Rattle.rules.proofs.OneResult.{one-result}
-use Rattle.dispatch.specs.declared.Rows.{Rows}
-use Rattle.dispatch.specs.declared.State.{State}
+use Rattle.state.specs.declared.Rows.{Rows}
+use Rattle.state.specs.declared.State.{State}
 use Rattle.block.specs.Layout.{encodedOn, writtenOn}
 use Rattle.block.specs.Tests.{decodedOf}
 

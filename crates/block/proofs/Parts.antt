@@ -9,9 +9,9 @@ use native.Mathlib.Numerals.{add-one}
 use native.Mathlib.Omega.{arith}
 use Rattle.rules.specs.Lists.{All}
 use Rattle.rules.proofs.Fields.{byte-lt}
-use Rattle.dispatch.specs.Meaning.{entry, rowsFrom}
-use Rattle.dispatch.proofs.Entries.{last-rows}
-use Rattle.dispatch.proofs.Positions.{same-rows}
+use Rattle.state.specs.Meaning.{entry, rowsFrom}
+use Rattle.state.proofs.Entries.{last-rows}
+use Rattle.state.proofs.Positions.{same-rows}
 use Rattle.block.specs.Words.{bytesAt, four, joined, one, quad, quadsAt, two, word, wordsAt}
 use Rattle.block.proofs.Arrays.{joined-append, read-none}
 

@@ -18,12 +18,12 @@ use Rattle.rules.specs.Tick.{bit}
 use Rattle.rules.specs.Tables.{RanksOk, ranked}
 use Rattle.rules.proofs.Bools.{or-true}
 use Rattle.rules.proofs.Ranks.{below-few, here, ranks-below, sum-ranked}
-use Rattle.dispatch.specs.Meaning.{rowsFrom}
-use Rattle.dispatch.specs.Sets.{known}
-use Rattle.dispatch.proofs.Bits.{bit-known, bit-one, bit-or, bit-past}
-use Rattle.dispatch.proofs.Bools.{or-yes}
-use Rattle.dispatch.proofs.Entries.{total-rows}
-use Rattle.dispatch.proofs.Positions.{all-rows, length-rows}
+use Rattle.state.specs.Meaning.{rowsFrom}
+use Rattle.state.specs.Sets.{known}
+use Rattle.state.proofs.Bits.{bit-known, bit-one, bit-or, bit-past}
+use Rattle.state.proofs.Bools.{or-yes}
+use Rattle.state.proofs.Entries.{total-rows}
+use Rattle.state.proofs.Positions.{all-rows, length-rows}
 use Rattle.block.specs.Tests.{orOf}
 use Rattle.block.proofs.Bits.{known-below, same-bits}
 use Rattle.block.proofs.Ors.{or-below}

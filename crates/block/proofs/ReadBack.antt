@@ -7,8 +7,8 @@ use lib.Seq.{drop-at, drop-drop, getD-drop}
 use native.Mathlib.Nat.{add-assoc, mul-suc, mul-zero, one-mul}
 use native.Mathlib.Omega.{arith}
 use Rattle.rules.specs.Lists.{All}
-use Rattle.dispatch.specs.Meaning.{entry, rowsFrom}
-use Rattle.dispatch.proofs.Positions.{same-rows, shift-rows}
+use Rattle.state.specs.Meaning.{entry, rowsFrom}
+use Rattle.state.proofs.Positions.{same-rows, shift-rows}
 use Rattle.block.specs.Words.{bytesAt, four, joined, one, quad, quadsAt, two, word, wordsAt}
 
 -- in a list, from a place on, stands a part, and then others

@@ -9,9 +9,9 @@ use lib.ListN.{drop, getD-replicate, length, length-append}
 use lib.Seq.{drop-at, drop-drop, sets, sets-eq, take-at}
 use native.Mathlib.Omega.{arith}
 use Rattle.rules.specs.Tables.{Bytes}
-use Rattle.dispatch.specs.declared.Rows.{Rows}
-use Rattle.dispatch.specs.declared.State.{State}
-use Rattle.dispatch.specs.Meaning.{entry}
+use Rattle.state.specs.declared.Rows.{Rows}
+use Rattle.state.specs.declared.State.{State}
+use Rattle.state.specs.Meaning.{entry}
 use Rattle.block.specs.declared.Decoded.{Decoded}
 use Rattle.block.specs.Words.{joined, one}
 use Rattle.block.specs.Layout.{Long, headOf, imageOf, jobsOf, marksOf, numbersOf, queueOf, reserved, rowsAt, stateAt, stateOn, tableOf}

@@ -11,11 +11,11 @@ use native.Mathlib.Omega.{arith}
 use Rattle.rules.specs.Tick.{bit}
 use Rattle.rules.proofs.Bools.{and-iff}
 use Rattle.rules.proofs.ImageTests.{le-iff}
-use Rattle.dispatch.specs.Meaning.{entry, wrapped}
-use Rattle.dispatch.specs.Sets.{known, others}
-use Rattle.dispatch.specs.declared.Rows.{Rows}
-use Rattle.dispatch.specs.declared.State.{State}
-use Rattle.dispatch.proofs.Bits.{bit-known, bit-or, bit-others, known-lt}
+use Rattle.state.specs.Meaning.{entry, wrapped}
+use Rattle.state.specs.Sets.{known, others}
+use Rattle.state.specs.declared.Rows.{Rows}
+use Rattle.state.specs.declared.State.{State}
+use Rattle.state.proofs.Bits.{bit-known, bit-or, bit-others, known-lt}
 use Rattle.block.specs.Words.{quad, word, wordsAt}
 use Rattle.block.specs.Layout.{rowsAt, stateAt}
 use Rattle.block.specs.Tests

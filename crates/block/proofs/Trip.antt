@@ -4,9 +4,9 @@ use mathlib.Core.List.{List, _++_, append-assoc}
 use mathlib.Core.Path.{refl, _≡_}
 use lib.ListN.{drop}
 use native.Mathlib.Omega.{arith}
-use Rattle.dispatch.specs.declared.Rows.{Rows}
-use Rattle.dispatch.specs.declared.State.{State}
-use Rattle.dispatch.specs.Meaning.{entry}
+use Rattle.state.specs.declared.Rows.{Rows}
+use Rattle.state.specs.declared.State.{State}
+use Rattle.state.specs.Meaning.{entry}
 use Rattle.block.specs.Words.{four, joined, one, quad, two, word}
 use Rattle.block.specs.Layout.{Long, headOf, imageOf, jobsOf, queueOf, reserved, rowsAt, stateAt, tableOf}
 use Rattle.block.proofs.Lengths.{fours-long, ones-long, twos-long}

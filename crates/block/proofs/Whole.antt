@@ -7,7 +7,7 @@ use lib.Seq.{take-all}
 use native.Mathlib.Omega.{arith}
 use Rattle.rules.specs.Lists.{All}
 use Rattle.rules.proofs.Fields.{byte-lt}
-use Rattle.dispatch.specs.Meaning.{entry}
+use Rattle.state.specs.Meaning.{entry}
 use Rattle.block.specs.Words.{one}
 use Rattle.block.specs.Layout.{headOf, imageOf, jobsOf, numbersOf, queueOf, reserved, rowsAt, stateAt, tableOf}
 use Rattle.block.proofs.Parts.{bytes-part, four-part, one-part, part, part-join, quads-part, two-part, words-part, zeros-part}

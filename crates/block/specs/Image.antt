@@ -4,9 +4,9 @@ use mathlib.Core.List.{List}
 use mathlib.Core.Path.{_≡_}
 use lib.ListN.{length}
 use Rattle.rules.specs.Tables.{Bytes}
-use Rattle.dispatch.specs.declared.Rows.{Rows}
-use Rattle.dispatch.specs.declared.State.{State}
-use Rattle.dispatch.specs.Meaning.{Stored}
+use Rattle.state.specs.declared.Rows.{Rows}
+use Rattle.state.specs.declared.State.{State}
+use Rattle.state.specs.Meaning.{Stored}
 use Rattle.block.specs.Layout.{Long, imageOf, stateOn}
 use Rattle.block.specs.Tests.{decodedAs, decodedOf}
 

@@ -6,10 +6,10 @@ use lib.Bits.{bitOr, bitXor}
 use lib.Dec.{eqb, leb, ltb}
 use lib.ListN.{length, replicate}
 use Rattle.rules.specs.Tick.{bit}
-use Rattle.dispatch.specs.Meaning.{entry, wrapped}
-use Rattle.dispatch.specs.Sets.{known, others}
-use Rattle.dispatch.specs.declared.Rows.{Rows}
-use Rattle.dispatch.specs.declared.State.{State}
+use Rattle.state.specs.Meaning.{entry, wrapped}
+use Rattle.state.specs.Sets.{known, others}
+use Rattle.state.specs.declared.Rows.{Rows}
+use Rattle.state.specs.declared.State.{State}
 use Rattle.block.specs.declared.Decoded.{Decoded}
 use Rattle.block.specs.Words.{quad, word}
 use Rattle.block.specs.Layout.{rowsAt, stateAt}

@@ -4,7 +4,7 @@ use mathlib.Core.List.{List, [], _∷_, _++_}
 use mathlib.Core.Path.{_≡_}
 use lib.ListN.{length}
 use lib.Seq.{sets}
-use Rattle.dispatch.specs.Meaning.{entry, rowsFrom}
+use Rattle.state.specs.Meaning.{entry, rowsFrom}
 
 -- read
 

@@ -4,8 +4,8 @@ ghost use mathlib.Core.Bool.{cond};
 ghost use Prim.Native.Nat.{_-_, _%_, _^_, _≤_, _<_};
 ghost use lib.ListN.{length};
 ghost use Rattle.rules.specs.Tick.{bit};
-ghost use Rattle.dispatch.specs.Meaning.{wrapped};
-ghost use Rattle.dispatch.specs.Sets.{known};
+ghost use Rattle.state.specs.Meaning.{wrapped};
+ghost use Rattle.state.specs.Sets.{known};
 ghost use Rattle.block.specs.Tests.{rowMark, firmMark, rowFault, rowsOk, ranksOnce, ranksLow, ranksBlank, stampFault, stampsOk, firmFault, firmsOk, ticketsOk, lastOk, freeOk, tableTest, jobsTest, timesTest, queueTest, restTest, imageOk};
 use crate::words;
 
@@ -22,7 +22,7 @@ pub fn is_image(b: &[u8]) -> bool
         return false;
     }
     let last = words::size(b[2]);
-    let live = below(n);
+    let live = state::known_rows(n);
     let r1 = table_good(b, n);
     let r2 = jobs_good(b, live, last);
     let r3 = times_good(b, live);
@@ -58,7 +58,7 @@ fn queue_good(b: &[u8], count: usize, last: usize) -> bool
     requires { ⌜ (length (now b) ≡ 512) × (count ≤ 8) ⌝ }
     ensures { λ r. ⌜ r ≡ queueTest (now (b .entry)) count last ⌝ }
 {
-    let queued = below(count);
+    let queued = state::known_rows(count);
     firms_good(b, queued, firm_mark(last))
         & tickets_good(b, queued, first_ticket(words::get32(b, 8), count))
 }
@@ -68,15 +68,6 @@ fn rest_good(b: &[u8], count: usize, last: usize) -> bool
     ensures { λ r. ⌜ r ≡ restTest (now (b .entry)) count last ⌝ }
 {
     last_good(b, last, words::get16(b, 12), count) & free_good(b)
-}
-
-// The set of the positions below n.
-fn below(n: usize) -> u16
-    requires { ⌜ n ≤ 16 ⌝ }
-    ensures { λ r. ⌜ r ≡ known n ⌝ }
-{
-    let k = 16 - n;
-    (65535u32 >> k) as u16
 }
 
 // The last runner as a set of rows, and as a set of firm jobs, of which only the first can be it.
@@ -163,7 +154,7 @@ fn ranks_once(b: &[u8], n: usize) -> bool
         x = x | mark(words::size(b[240 + i]));
         i += 1;
     }
-    x == below(n) as u32
+    x == state::known_rows(n) as u32
 }
 
 fn ranks_low(b: &[u8]) -> bool
@@ -198,19 +189,13 @@ fn pick32(b: bool, x: u32, y: u32) -> u32
     if b { x } else { y }
 }
 
-fn age(clock: u32, stamp: u32) -> u32
-    ensures { λ r. ⌜ r ≡ wrapped clock stamp ⌝ }
-{
-    std::num::wrapping_sub_u32(clock, stamp)
-}
-
 fn stamp_fault(quiet: bool, t: u16, clock: u32, stamp: u32) -> u32
     ensures { λ r. ⌜ r ≡ stampFault quiet t clock stamp ⌝ }
 {
     pick32(
         quiet,
         stamp,
-        pick32(age(clock, stamp) < words::wider(t), 0, 1),
+        pick32(state::since(clock, stamp) < words::wider(t), 0, 1),
     )
 }
 
@@ -262,7 +247,7 @@ fn first_ticket(next: u32, count: usize) -> u32
     requires { ⌜ count ≤ 8 ⌝ }
     ensures { λ r. ⌜ r ≡ wrapped next count ⌝ }
 {
-    age(next, count as u32)
+    state::since(next, count as u32)
 }
 
 fn tickets_good(b: &[u8], queued: u16, first: u32) -> bool

@@ -7,8 +7,8 @@ ghost use lib.ListN.{length};
 ghost use Rattle.block.specs.Words.{Put};
 ghost use Rattle.block.specs.Layout.{rowsAt, stateAt, headOf, marksOf, numbersOf, tableOf, jobsOf, queueOf, reserved, imageOf, encodedOn, stateOn, writtenOn};
 ghost use Rattle.block.specs.Tests.{refusedBlock, decodedOf};
-use dispatch::Rows;
-use dispatch::State;
+use state::Rows;
+use state::State;
 
 // ok: the block is an image, of these rows and this state; else all of them are 0.
 pub struct Decoded {

@@ -10,16 +10,16 @@ use Rattle.rules.specs.Offer.{Offered, accepted, no-offer, offer}
 use Rattle.rules.specs.Refusals.{number, refusal, unknown-flag}
 use Rattle.rules.specs.Station.{Station}
 use Rattle.rules.specs.Tick.{Ticked, no-tick, tick, ticked}
-use Rattle.dispatch.specs.declared.OfferMade.{OfferMade}
-use Rattle.dispatch.specs.declared.Rows.{Rows}
-use Rattle.dispatch.specs.declared.State.{State}
+use Rattle.offer.specs.declared.OfferMade.{OfferMade}
+use Rattle.state.specs.declared.Rows.{Rows}
+use Rattle.state.specs.declared.State.{State}
 use Rattle.dispatch.specs.declared.Ticked as memory
-use Rattle.dispatch.specs.Meaning.{Stored, stationOf}
-use Rattle.dispatch.specs.OfferAnswers.{OfferIs}
-use Rattle.dispatch.specs.OfferSteps.{offerMade}
+use Rattle.state.specs.Meaning.{Stored, stationOf}
+use Rattle.offer.specs.Answers.{OfferIs}
+use Rattle.offer.specs.Steps.{offerMade}
 use Rattle.dispatch.specs.Refines.{TickRefines}
 use Rattle.dispatch.specs.Steps.{tickIn}
-use Rattle.dispatch.proofs.OfferRefine.{offer-refines}
+use Rattle.offer.proofs.Refine.{offer-refines}
 use Rattle.dispatch.proofs.Refine.{tick-refines}
 use Rattle.block.specs.Image.{Imaged}
 use Rattle.block.specs.Layout.{imageOf, writtenOn}

@@ -16,9 +16,9 @@ use Rattle.rules.proofs.Fresh.{fresh-rows}
 use Rattle.rules.proofs.Results.{table-promises}
 use Rattle.rules.proofs.Rows.{rows-after}
 use Rattle.table.specs.Memory.{indexed, rowAt}
-use Rattle.dispatch.specs.Meaning.{rowsFrom, slotAt, stationOf}
-use Rattle.dispatch.specs.declared.Rows.{Rows}
-use Rattle.dispatch.specs.declared.State.{State}
+use Rattle.state.specs.Meaning.{rowsFrom, slotAt, stationOf}
+use Rattle.state.specs.declared.Rows.{Rows}
+use Rattle.state.specs.declared.State.{State}
 use Rattle.board.specs.Blocks.{giving, tableBlock, tableIn, writingOn}
 use Rattle.board.specs.Numbers.{refusedTable}
 use Rattle.board.specs.Promises.{blockAfter}

@@ -12,7 +12,7 @@ use Rattle.rules.specs.Refusals.{B-zero, C-over-D, C-zero, D-over-T, Refusal, a
 use Rattle.rules.specs.Station.{Station}
 use Rattle.rules.specs.Tick.{Answer, Closing, Runner, Ticked, close, done, firm, firm-job, hard, hard-job, idle, lower, no-tick, noneRan, nothing, soft, spent, stepped, tick, ticked, unknown, unready, upper}
 use Rattle.dispatch.specs.Answers.{answerOf, closingOf, runnerOf, verdictOf}
-use Rattle.dispatch.specs.declared.State.{State}
+use Rattle.state.specs.declared.State.{State}
 use Rattle.board.specs.declared.ClosingNumbers.{ClosingNumbers}
 use Rattle.board.specs.declared.RunnerNumbers.{RunnerNumbers}
 use Rattle.board.specs.Numbers.{closingNumbers, runnerNumbers, steppedTick, tickNumbers}

@@ -11,15 +11,15 @@ use Rattle.rules.specs.File.{Reading, Writing, read, read-as, unread, unwritten
 use Rattle.rules.specs.Refusals.{not-image, number, unknown-flag}
 use Rattle.rules.specs.Station.{Station}
 use Rattle.table.specs.Memory.{rowsOf}
-use Rattle.dispatch.specs.declared.Offered.{Offered}
-use Rattle.dispatch.specs.declared.Offered.the-variants.{Refused, Ticket}
-use Rattle.dispatch.specs.declared.OfferMade.{OfferMade}
-use Rattle.dispatch.specs.declared.Rows.{Rows}
-use Rattle.dispatch.specs.declared.State.{State}
+use Rattle.offer.specs.declared.Offered.{Offered}
+use Rattle.offer.specs.declared.Offered.the-variants.{Refused, Ticket}
+use Rattle.offer.specs.declared.OfferMade.{OfferMade}
+use Rattle.state.specs.declared.Rows.{Rows}
+use Rattle.state.specs.declared.State.{State}
 use Rattle.dispatch.specs.declared.Ticked.{Ticked}
 use Rattle.dispatch.specs.declared.Verdict.{Verdict}
 use Rattle.dispatch.specs.declared.Verdict.the-variants.{NoneRan, NotReady, Stepped, Unknown}
-use Rattle.dispatch.specs.OfferSteps.{claimsOf, offerMade, refusedBy, ticketFor, unrunOf}
+use Rattle.offer.specs.Steps.{claimsOf, offerMade, refusedBy, ticketFor, unrunOf}
 use Rattle.dispatch.specs.Steps.{tickIn}
 use Rattle.block.specs.Tests.{decodedAs, decodedOf}
 use Rattle.block.proofs.Results.{block-promises}

@@ -20,9 +20,8 @@ use Rattle.rules.specs.Tables.{Bytes}
 use Rattle.rules.specs.Tick.{Answer, Ticked, closedAs, done, no-tick, ticked}
 use Rattle.rules.proofs.Calls.{on-call}
 use Rattle.rules.proofs.Results.{demand-3, done-is-told, in-true-time}
-use Rattle.dispatch.specs.Meaning.{stationOf}
-use Rattle.dispatch.specs.Planned.{rowsFor}
-use Rattle.dispatch.specs.Steps.{freshIn}
+use Rattle.state.specs.Meaning.{stationOf}
+use Rattle.state.specs.Fresh.{rowsFor, freshIn}
 use Rattle.block.specs.Layout.{imageOf}
 use Rattle.block.specs.Tests.{decodedAs, decodedOf}
 use Rattle.block.proofs.Results.{block-promises}

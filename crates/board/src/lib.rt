@@ -8,10 +8,10 @@ ghost use Rattle.board.specs.Blocks.{planBlock, tickBlock, offerBlock, t
 use dispatch::Answer;
 use dispatch::Band;
 use dispatch::Closing;
-use dispatch::Offered;
-use dispatch::Rows;
 use dispatch::Runner;
 use dispatch::Verdict;
+use offer::Offered;
+use state::Rows;
 use table::Table;
 use table::Written;
 
@@ -76,8 +76,8 @@ pub extern "C" fn heechstjer_plan(table: &[u8], block: &mut [u8]) -> PlanAnswer
         table::Verdict::Accepted => {
             let tb = reading.table;
             let plan = reading.plan;
-            let rows = dispatch::planned_rows(tb, plan);
-            let state = dispatch::fresh_state(rows.n);
+            let rows = state::planned_rows(tb, plan);
+            let state = state::fresh_state(rows.n);
             block::encode(rows, state, block);
             PlanAnswer {
                 from: 0,
@@ -129,12 +129,12 @@ pub extern "C" fn heechstjer_offer(block: &mut [u8], budget: u16, deadline: u16)
     if decoded.ok {
         let rows = decoded.rows;
         let state = decoded.state;
-        let made = dispatch::offer::offer(rows, state, budget, deadline);
+        let made = offer::offer(rows, state, budget, deadline);
         let offered = made.offered;
         let Offered::Ticket(ticket) = offered else {
             return OfferAnswer {
                 ticket: 0,
-                refusal: dispatch::offer_number(offered),
+                refusal: offer::offer_number(offered),
             };
         };
         let next = made.state;

@@ -1,11 +1,6 @@
-pub mod Bools
-pub mod Bits
 pub mod Loops
 pub mod Ways
-pub mod Positions
 pub mod Arrays
-pub mod Agrees
-pub mod Widths
 pub mod RefineClose
 pub mod RefineRelease
 pub mod RefineChoose
@@ -13,11 +8,5 @@ pub mod RefineAdvance
 pub mod RefineRun
 pub mod Refine
 pub mod AnswerNumbers
-pub mod RefineFresh
-pub mod Sums
-pub mod OfferBounds
-pub mod Entries
-pub mod OfferRefine
-pub mod PlannedRows
 pub mod NamedRows
 pub mod OneResult

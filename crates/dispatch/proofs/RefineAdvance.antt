@@ -10,16 +10,17 @@ use borrow.Author.Tests.{le-ltb, leb-false, leb-true, lt-ltb}
 use Rattle.rules.specs.Station.{Last, hold}
 use Rattle.rules.specs.Tick.{bit, lastAt, passRows, passed, ranOnce}
 use Rattle.rules.proofs.Bools.{or-false}
-use Rattle.dispatch.specs.declared.Rows.{Rows}
-use Rattle.dispatch.specs.declared.State.{State}
-use Rattle.dispatch.specs.Meaning.{Kept, ageAt, entry, jobAt, rowAt, slotAt, slotsOf, wrapped}
-use Rattle.dispatch.specs.Sets.{agedAt, known, marked, rowsThat, upto}
+use Rattle.state.specs.declared.Rows.{Rows}
+use Rattle.state.specs.declared.State.{State}
+use Rattle.state.specs.Meaning.{Kept, ageAt, entry, jobAt, rowAt, slotAt, slotsOf, wrapped}
+use Rattle.state.specs.Sets.{known}
+use Rattle.dispatch.specs.Loops.{agedAt, marked, rowsThat, upto}
 use Rattle.dispatch.specs.Steps.{advanced, nextClock, restedNext}
 use Rattle.dispatch.proofs.Arrays.{bit-that, length-upto, stamped-at}
-use Rattle.dispatch.proofs.Bits.{bit-and, bit-known, bit-or}
+use Rattle.state.proofs.Bits.{bit-and, bit-known, bit-or}
 use Rattle.dispatch.proofs.Loops.{that-lt}
-use Rattle.dispatch.proofs.Positions.{each-rows}
-use Rattle.dispatch.proofs.Bools.{and-no, and-yes}
+use Rattle.state.proofs.Positions.{each-rows}
+use Rattle.state.proofs.Bools.{and-no, and-yes}
 
 -- one tick later the stamp is one tick longer ago, also where the clock rolls over
 pub age-next : (clock stamp : ℕ) → clock < 2 ^ 32 → stamp < 2 ^ 32 → wrapped clock stamp + 1 < 2 ^ 32 → wrapped ((clock + 1) % 2 ^ 32) stamp ≡ wrapped clock stamp + 1

@@ -21,18 +21,18 @@ use Rattle.rules.proofs.Tickets.{behind, without-others}
 use Rattle.rules.proofs.Walks.{Holds}
 use Rattle.dispatch.specs.declared.Closing.{Closing}
 use Rattle.dispatch.specs.declared.Closing.the-variants.{Nothing, HardDone, HardSpent, FirmDone, FirmSpent}
-use Rattle.dispatch.specs.declared.Rows.{Rows}
-use Rattle.dispatch.specs.declared.State.{State}
+use Rattle.state.specs.declared.Rows.{Rows}
+use Rattle.state.specs.declared.State.{State}
 use Rattle.dispatch.specs.Answers.{closingOf}
-use Rattle.dispatch.specs.Meaning.{Kept, Stored, entry, firmAt, firmsOf, rowsFrom, slotAt, slotsOf, stationOf}
-use Rattle.dispatch.specs.Sets.{others}
+use Rattle.state.specs.Meaning.{Kept, Stored, entry, firmAt, firmsOf, rowsFrom, slotAt, slotsOf, stationOf}
+use Rattle.state.specs.Sets.{others}
 use Rattle.dispatch.specs.Steps.{closedBy, closingIn, popped, shutRow}
-use Rattle.dispatch.proofs.Agrees.{Agrees}
+use Rattle.state.proofs.Agrees.{Agrees}
 use Rattle.dispatch.proofs.Arrays.{bit-minus, set-at, shift-at}
-use Rattle.dispatch.proofs.Bits.{bit-one}
-use Rattle.dispatch.proofs.Positions.{any-rows, each-rows, first-row, holds-rows, shift-rows}
-use Rattle.dispatch.proofs.Widths.{image-of}
-use Rattle.dispatch.proofs.Bools.{leb-ltb, or-no}
+use Rattle.state.proofs.Bits.{bit-one}
+use Rattle.state.proofs.Positions.{any-rows, each-rows, first-row, holds-rows, shift-rows}
+use Rattle.state.proofs.Widths.{image-of}
+use Rattle.state.proofs.Bools.{leb-ltb, or-no}
 
 -- a hard job closes
 

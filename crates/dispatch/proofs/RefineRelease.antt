@@ -8,15 +8,16 @@ use lib.Bits.{bitAnd, and-le-l, or-lt}
 use Rattle.rules.specs.Station.{closed, hold, opened}
 use Rattle.rules.specs.Tick.{bit, release, released}
 use Rattle.rules.proofs.Bools.{and-true, or-false}
-use Rattle.dispatch.specs.declared.Rows.{Rows}
-use Rattle.dispatch.specs.declared.State.{State}
-use Rattle.dispatch.specs.Meaning.{Kept, entry, rowAt, slotAt, slotsOf, wrapped}
-use Rattle.dispatch.specs.Sets.{marked, others, upto}
+use Rattle.state.specs.declared.Rows.{Rows}
+use Rattle.state.specs.declared.State.{State}
+use Rattle.state.specs.Meaning.{Kept, entry, rowAt, slotAt, slotsOf, wrapped}
+use Rattle.state.specs.Sets.{others}
+use Rattle.dispatch.specs.Loops.{marked, upto}
 use Rattle.dispatch.specs.Steps.{releasedBy}
 use Rattle.dispatch.proofs.Arrays.{bit-minus, length-upto, stamped-at}
-use Rattle.dispatch.proofs.Bits.{bit-or}
-use Rattle.dispatch.proofs.Positions.{each-rows}
-use Rattle.dispatch.proofs.Bools.{and-no, and-yes, or-no}
+use Rattle.state.proofs.Bits.{bit-or}
+use Rattle.state.proofs.Positions.{each-rows}
+use Rattle.state.proofs.Bools.{and-no, and-yes, or-no}
 
 age-now : (clock : ℕ) → clock < 2 ^ 32 → wrapped clock clock ≡ 0
 age-now clock h = omega arith

@@ -1,9 +1,5 @@
-pub mod Meaning
 pub mod Answers
-pub mod Sets
+pub mod Loops
 pub mod Steps
 pub mod Refines
-pub mod OfferSteps
-pub mod OfferAnswers
-pub mod Planned
 pub mod Below

@@ -4,19 +4,20 @@ use mathlib.Core.Bool.{Bool, false, cond}
 use mathlib.Core.List.{List, [], _∷_}
 use lib.Bits.{bitAnd, bitOr}
 use lib.Dec.{ltb, eqb}
-use lib.ListN.{replicate, set}
+use lib.ListN.{set}
 use Rattle.dispatch.specs.declared.Band.the-variants.{Upper, Lower}
 use Rattle.dispatch.specs.declared.Closing.{Closing}
 use Rattle.dispatch.specs.declared.Closing.the-variants.{Nothing, HardDone, HardSpent, FirmDone, FirmSpent}
-use Rattle.dispatch.specs.declared.Rows.{Rows}
+use Rattle.state.specs.declared.Rows.{Rows}
 use Rattle.dispatch.specs.declared.Runner.{Runner}
 use Rattle.dispatch.specs.declared.Runner.the-variants.{Hard, Firm, Soft, Idle}
-use Rattle.dispatch.specs.declared.State.{State}
+use Rattle.state.specs.declared.State.{State}
 use Rattle.dispatch.specs.declared.Ticked.{Ticked}
 use Rattle.dispatch.specs.declared.Verdict.the-variants.{Stepped, Unknown, NoneRan, NotReady}
 use Rattle.dispatch.specs.declared.sets.Best.{Best}
-use Rattle.dispatch.specs.Meaning.{entry}
-use Rattle.dispatch.specs.Sets.{agedAt, foldRows, known, least, lowAt, marked, noBest, others, rowsThat, upto}
+use Rattle.state.specs.Meaning.{entry}
+use Rattle.state.specs.Sets.{known, least, others}
+use Rattle.dispatch.specs.Loops.{agedAt, foldRows, lowAt, marked, noBest, rowsThat, upto}
 
 -- the state with these in place of its clock, open rows, rested rows and stamps
 abbrev pub retimed : State → ℕ → ℕ → ℕ → List ℕ → State
@@ -167,19 +168,3 @@ tickIn rows s set d soft =
     cond (ltb unknown 16) (record { verdict = Unknown unknown; state = s })
     (cond (cond d (ltb 16 (s .last)) false) (record { verdict = NoneRan; state = s })
     (readied rows s (closedBy s closing) set soft closing))
-
--- every row rested, the clock at 0, nobody ran
-unfoldable pub freshIn : ℕ → State
-freshIn n = record {
-  clock = 0;
-  next = 0;
-  «open» = 0;
-  rested = known n;
-  last = 17;
-  count = 0;
-  run = replicate 16 0;
-  stamp = replicate 16 0;
-  budget = replicate 8 0;
-  used = replicate 8 0;
-  ticket = replicate 8 0;
-}

@@ -1,43 +1,13 @@
-// The dispatcher in memory: what a tick never changes, what it changes, and the tick.
+// The dispatcher in memory: the tick, and its answer.
+mod sets; // sets.rt: sets of rows, and the loops over sixteen rows
+mod steps; // steps.rt: close, release, choose, run
+
 ghost use mathlib.Core.Path.{_≡_};
 ghost use mathlib.Core.Bool.{Bool};
+ghost use Rattle.dispatch.specs.Answers.{numberOf};
 ghost use Rattle.dispatch.specs.Steps.{tickIn};
-
-mod fresh;
-mod numbers;
-pub mod offer;
-mod sets;
-mod steps;
-
-pub use fresh::fresh_state;
-pub use fresh::planned_rows;
-pub use numbers::offer_number;
-pub use numbers::tick_number;
-
-// What a tick never changes: the table's rows and their promotion times. Entries of rows that are not there are 0.
-pub struct Rows {
-    pub n: usize,
-    pub c: [u16; 16],
-    pub d: [u16; 16],
-    pub t: [u16; 16],
-    pub u: [u16; 16],
-    pub rank: [u8; 16],
-}
-
-// What a tick changes. open, rested: sets of rows. last: a row below 16, 16 the first firm job, 17 nobody.
-pub struct State {
-    pub clock: u32,
-    pub next: u32,
-    pub open: u16,
-    pub rested: u16,
-    pub last: usize,
-    pub count: usize,
-    pub run: [u16; 16],
-    pub stamp: [u32; 16],
-    pub budget: [u16; 8],
-    pub used: [u16; 8],
-    pub ticket: [u32; 8],
-}
+use state::Rows;
+use state::State;
 
 pub enum Band {
     Upper,
@@ -81,22 +51,11 @@ pub struct Ticked {
     pub state: State,
 }
 
-// To the caller, a ticket or a refusal by its number.
-pub enum Offered {
-    Ticket(u32),
-    Refused(u8),
-}
-
-pub struct OfferMade {
-    pub offered: Offered,
-    pub state: State,
-}
-
 // One tick: the checks 12, 13, 14, then close, release, choose, run. A refusal returns the state that it was given.
 pub fn tick(rows: Rows, s: State, set: u16, done: bool, soft: bool) -> Ticked
     ensures { λ r. ⌜ r ≡ tickIn rows s set done soft ⌝ }
 {
-    let known = sets::known_rows(rows.n);
+    let known = state::known_rows(rows.n);
     let unknown = sets::lowest(set & !known);
     if unknown < 16 {
         return Ticked {
@@ -122,4 +81,16 @@ pub fn tick(rows: Rows, s: State, set: u16, done: bool, soft: bool) -> Ticked
         };
     }
     steps::stepped(rows, closed, set, soft, closing)
+}
+
+// Document 01's number of a refused tick, 0 of a stepped one.
+pub fn tick_number(verdict: Verdict) -> u8
+    ensures { λ r. ⌜ r ≡ numberOf verdict ⌝ }
+{
+    match verdict {
+        Verdict::Stepped(_) => 0,
+        Verdict::Unknown(_) => 12,
+        Verdict::NoneRan => 13,
+        Verdict::NotReady(_) => 14,
+    }
 }

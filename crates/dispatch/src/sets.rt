@@ -2,20 +2,8 @@
 ghost use mathlib.Core.Path.{_≡_};
 ghost use mathlib.Core.Bool.{Bool, cond};
 ghost use Prim.Native.Nat.{ℕ, _+_, _/_, _^_, _<_};
-ghost use Rattle.rules.specs.Tick.{bit};
-ghost use Rattle.dispatch.specs.Meaning.{wrapped};
-ghost use Rattle.dispatch.specs.Sets.{agedAt, foldRows, known, least, lowAt, marked, noBest, better, rowsThat, upto};
-
-// The rows below n; from 16 on all sixteen.
-pub fn known_rows(n: usize) -> u16
-    ensures { λ r. ⌜ r ≡ known n ⌝ }
-{
-    if n < 16 {
-        let above = 16 - n;
-        return (65535u32 >> above) as u16;
-    }
-    65535
-}
+ghost use Rattle.state.specs.Sets.{least};
+ghost use Rattle.dispatch.specs.Loops.{agedAt, foldRows, lowAt, marked, noBest, better, rowsThat, upto};
 
 // The lowest row of the set, 16 where it is empty.
 pub fn lowest(set: u16) -> usize
@@ -32,15 +20,7 @@ pub fn one(i: usize) -> u16
     1 << i
 }
 
-// The row is in the set.
-pub fn has(set: u32, i: usize) -> bool
-    requires { ⌜ i < 16 ⌝ }
-    ensures { λ r. ⌜ r ≡ bit set i ⌝ }
-{
-    (set >> i) % 2 == 1
-}
-
-pub fn wide(x: u16) -> u32
+fn wide(x: u16) -> u32
     ensures { λ r. ⌜ r ≡ x ⌝ }
 {
     x as u32
@@ -61,17 +41,10 @@ pub fn stamped(stamp: [u32; 16], set: u16, v: u32) -> [u32; 16]
     let mut i: usize = 0;
     while i < 16 {
         let x = a[i];
-        a[i] = pick(has(rows, i), v, x);
+        a[i] = pick(state::has(rows, i), v, x);
         i += 1;
     }
     a
-}
-
-// Clock minus stamp, modulo 2^32.
-pub fn since(clock: u32, stamp: u32) -> u32
-    ensures { λ r. ⌜ r ≡ wrapped clock stamp ⌝ }
-{
-    std::num::wrapping_sub_u32(clock, stamp)
 }
 
 fn one_wide(i: usize) -> u32
@@ -88,7 +61,7 @@ pub fn aged_rows(ticks: [u16; 16], stamp: [u32; 16], clock: u32) -> u16
     let mut rows: u32 = 0;
     let mut i: usize = 0;
     while i < 16 {
-        rows = rows | pick(wide(ticks[i]) <= since(clock, stamp[i]), one_wide(i), 0);
+        rows = rows | pick(wide(ticks[i]) <= state::since(clock, stamp[i]), one_wide(i), 0);
         i += 1;
     }
     rows as u16

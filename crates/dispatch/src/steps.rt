@@ -6,13 +6,13 @@ ghost use Rattle.dispatch.specs.Steps.{advanced, bumped, chosenIn, close
 use crate::Answer;
 use crate::Band;
 use crate::Closing;
-use crate::Rows;
 use crate::Runner;
-use crate::State;
 use crate::Ticked;
 use crate::Verdict;
 use crate::sets;
 use crate::sets::Best;
+use state::Rows;
+use state::State;
 
 // How the last runner closes, if it does.
 pub fn closing_of(rows: Rows, s: State, done: bool) -> Closing
@@ -210,7 +210,7 @@ fn advance(rows: Rows, s: State) -> State
     let clock = std::num::wrapping_add_u32(s.clock, 1);
     let t = rows.t;
     let stamp = s.stamp;
-    let rested = s.rested | sets::aged_rows(t, stamp, clock) & sets::known_rows(rows.n);
+    let rested = s.rested | sets::aged_rows(t, stamp, clock) & state::known_rows(rows.n);
     let stamps = sets::stamped(stamp, rested, 0);
     let mut r = s;
     r.stamp = stamps;

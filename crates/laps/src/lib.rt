@@ -2,10 +2,10 @@
 ghost use Prim.Native.Nat.{_<_};
 use dispatch::Band;
 use dispatch::Closing;
-use dispatch::Rows;
 use dispatch::Runner;
-use dispatch::State;
 use dispatch::Verdict;
+use state::Rows;
+use state::State;
 
 // An event: bits 0 to 15 the release set, bit 16 done, bit 17 soft, above them the budget of an upload to queue first, if it is not 0.
 #[no_mangle]
@@ -73,7 +73,7 @@ fn bytes(a: [u16; 16]) -> [u8; 16] {
 
 // Fresh, but for the clock: it rolls over after half a million ticks.
 fn started() -> State {
-    let mut s = dispatch::fresh_state(16);
+    let mut s = state::fresh_state(16);
     s.clock = 4294467296;
     s
 }

@@ -1,9 +1,9 @@
 // Reads a table from standard input and prints a line a row: the row, C, D, T, R, U and the rounds; or why it is refused.
-use table::Place;
 use table::Plan;
 use table::Refusal;
 use table::Table;
 use table::Verdict;
+use wire::Place;
 ghost use Prim.Native.Nat.{_<_, _≤_};
 
 fn main() {
@@ -64,7 +64,7 @@ fn print_refusal(s: &[u8], refusal: Refusal) {
         from: refusal.from,
         size: refusal.size,
     };
-    print_bytes(table::shown(s, s, place));
+    print_bytes(wire::shown(s, s, place));
     print_line();
 }
 

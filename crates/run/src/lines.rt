@@ -3,7 +3,7 @@ use dispatch::Answer;
 use dispatch::Band;
 use dispatch::Closing;
 use dispatch::Runner;
-use table::Place;
+use wire::Place;
 ghost use Prim.Native.Nat.{_<_};
 ghost use Rattle.dispatch.specs.Below.{AnswerBelow, ClosingBelow, RunnerBelow};
 
@@ -15,7 +15,7 @@ pub fn too_long() {
 pub fn refused<'a>(table: &'a [u8], events: &'a [u8], number: u8, place: Place) {
     print(b"refused ");
     print_number(number as u64);
-    print_bytes(table::shown(table, events, place));
+    print_bytes(wire::shown(table, events, place));
     print_line();
 }
 

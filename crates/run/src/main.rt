@@ -1,15 +1,15 @@
 // Reads table.bin and events.bin, each empty where it can't be opened, and prints a line an event: the dispatcher's answer, or why it is refused.
 mod lines;
 
-use dispatch::Offered;
-use dispatch::Rows;
-use dispatch::State;
 use dispatch::Verdict;
 use event::EventRead;
-use table::Place;
+use offer::Offered;
+use state::Rows;
+use state::State;
+use wire::Place;
 ghost use mathlib.Core.Path.{_≡_};
 ghost use Rattle.dispatch.specs.Steps.{tickIn};
-ghost use Rattle.dispatch.specs.OfferSteps.{offerMade};
+ghost use Rattle.offer.specs.Steps.{offerMade};
 ghost use Rattle.io.specs.Counts.{Counts};
 
 fn main() {
@@ -48,7 +48,7 @@ fn run_files<'a>(table: &'a [u8], events: &'a [u8]) {
         table::Verdict::Accepted => {
             let rows = answer.table;
             let plan = answer.plan;
-            run_events(table, events, dispatch::planned_rows(rows, plan));
+            run_events(table, events, state::planned_rows(rows, plan));
         }
         table::Verdict::Refused(refusal) => {
             let place = Place::Table {
@@ -62,7 +62,7 @@ fn run_files<'a>(table: &'a [u8], events: &'a [u8]) {
 
 // The events in order, from the fresh state: to their end, or to the first that is no event.
 fn run_events<'a>(table: &'a [u8], events: &'a [u8], rows: Rows) {
-    let mut state = dispatch::fresh_state(rows.n);
+    let mut state = state::fresh_state(rows.n);
     let mut at: usize = 0;
     loop {
         match event::event_at(events, at) {
@@ -137,10 +137,10 @@ fn offer<'a>(
 ) -> State
     ensures { λ r. ⌜ r ≡ offerMade rows state budget deadline .state ⌝ }
 {
-    let made = dispatch::offer::offer(rows, state, budget, deadline);
+    let made = offer::offer(rows, state, budget, deadline);
     let offered = made.offered;
     let Offered::Ticket(ticket) = offered else {
-        lines::refused(table, events, dispatch::offer_number(offered), field);
+        lines::refused(table, events, offer::offer_number(offered), field);
         return made.state;
     };
     lines::accepted(ticket);

@@ -5,9 +5,8 @@ use Rattle.rules.specs.File.{read, write}
 use Rattle.rules.specs.OneResult.{One}
 use Rattle.rules.proofs.OneResult.{one-result}
 use Rattle.table.specs.Memory.{rowsOf}
-use Rattle.table.specs.Answers.{heldOf, planOrRefuse, planningOf, readingOf, shownOf, writtenOf}
+use Rattle.table.specs.Answers.{heldOf, planOrRefuse, planningOf, readingOf, writtenOf}
 use Rattle.table.specs.declared.Table.{Table}
-use Rattle.table.specs.declared.view.Place.{Place}
 
 pub read-table : (s : List ℕ) → One (readingOf (read s))
 read-table s = one-result
@@ -17,6 +16,3 @@ plan-table tb = one-result
 
 pub write-table : (tb : Table) (out : List ℕ) → One (writtenOf (write (rowsOf tb) out)) × One (heldOf out (write (rowsOf tb) out))
 write-table tb out = (one-result, one-result)
-
-pub shown : (table events : List ℕ) (place : Place) → One (shownOf table events place)
-shown table events place = one-result

@@ -4,7 +4,7 @@ use mathlib.Core.Bool.{Bool, cond, _&&_}
 use mathlib.Core.List.{List, [], map}
 use mathlib.Core.Option.{Option, none, some, Option·map}
 use lib.Dec.{ltb}
-use lib.ListN.{length, take, drop}
+use lib.ListN.{length}
 use Rattle.rules.specs.Lists.{total}
 use Rattle.rules.specs.Refusals.{number, row-17, Refused, refusal, atRow}
 use Rattle.rules.specs.Rows.{Row, rowFault}
@@ -22,7 +22,6 @@ use Rattle.table.specs.declared.Written.{Written}
 use Rattle.table.specs.declared.scan.Field.{Field}
 use Rattle.table.specs.declared.scan.Scanned.{Scanned}
 use Rattle.table.specs.declared.bounds.Bound.{Bound}
-use Rattle.table.specs.declared.view.Place.{Place}
 
 -- the first field of a file's rest: good, or what is wrong with it
 abbrev pub fieldUnless : Option BadField → Field → Field
@@ -92,9 +91,3 @@ writtenOf (unwritten why) = Written.Refused (number why)
 abbrev pub heldOf : List ℕ → Writing → List ℕ
 heldOf was (written n after) = after
 heldOf was (unwritten why) = was
-
--- the shown part: size bytes from a place of one of the two files, as far as it goes
-abbrev pub shownOf : List ℕ → List ℕ → Place → List ℕ
-shownOf table events (Place.Table from size) = take size (drop from table)
-shownOf table events (Place.Events from size) = take size (drop from events)
-shownOf table events Place.Nowhere = []

@@ -2,11 +2,8 @@
 mod bounds;
 mod faults;
 mod scan;
-mod view;
 mod writing;
 
-pub use view::Place;
-pub use view::shown;
 ghost use mathlib.Core.Path.{_≡_};
 ghost use Prim.Native.Nat.{_≤_};
 ghost use Rattle.rules.specs.Bound.{plan};

@@ -1,4 +1,8 @@
-// Numbers in byte slices, big-endian: a byte and two bytes, read and put at a place.
+// Lent byte slices: numbers in them, big-endian, read and put at a place; and the part of a file that a refusal shows.
+mod view; // view.rt: the part that a refusal shows
+
+pub use view::Place;
+pub use view::shown;
 ghost use mathlib.Core.Path.{_≡_};
 ghost use mathlib.Core.List.{[], _∷_};
 ghost use Prim.Native.Nat.{_+_, _<_, _≤_};

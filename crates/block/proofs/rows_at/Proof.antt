@@ -25,7 +25,16 @@ size-requires : tie.Need-size-requires
 size-requires c κs = search needs
 
 returns : tie.Need-returns
-returns c = cc
+returns c =
+    let ranks = c .before .before in
+    rw (
+      c .size .ensures .0,
+      ranks .get8s .ensures,
+      ranks .before .get16s4 .ensures,
+      ranks .before .before .get16s3 .ensures,
+      ranks .before .before .before .get16s2 .ensures,
+      ranks .before .before .before .before .get16s .ensures,
+    )
 
 pub rows-at-spec : {M : Type 1} → statement M
 rows-at-spec =

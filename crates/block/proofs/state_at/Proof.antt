@@ -43,7 +43,22 @@ size-requires-2 : tie.Need-size-requires-2
 size-requires-2 c κs = search needs
 
 returns : tie.Need-returns
-returns c = cc
+returns c =
+    let marks = c .before .before .before .before in
+    let queue = marks .before .before .before .before in
+    rw (
+      c .size2 .ensures .0,
+      c .before .before .size .ensures .0,
+      marks .get162 .ensures,
+      marks .before .get16 .ensures,
+      marks .before .before .get322 .ensures,
+      marks .before .before .before .get32 .ensures,
+      queue .get32f .ensures,
+      queue .before .get16f2 .ensures,
+      queue .before .before .get16f .ensures,
+      queue .before .before .before .get32s .ensures,
+      queue .before .before .before .before .get16s .ensures,
+    )
 
 pub state-at-spec : {M : Type 1} → statement M
 state-at-spec =

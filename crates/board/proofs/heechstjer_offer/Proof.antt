@@ -1,8 +1,8 @@
 -- `board::heechstjer_offer` meets its contract on each way through it. Assumes nothing.
 use mathlib.Core.Path.{_≡_, ap, _∙_}
-use Rattle.dispatch.specs.declared.Offered.{Offered}
-use Rattle.dispatch.specs.declared.Offered.the-variants.{Refused, Ticket}
-use Rattle.dispatch.specs.OfferAnswers.{offerNumber}
+use Rattle.offer.specs.declared.Offered.{Offered}
+use Rattle.offer.specs.declared.Offered.the-variants.{Refused, Ticket}
+use Rattle.offer.specs.Answers.{offerNumber}
 use Rattle.board.specs.Blocks.{offerBlock, offeredOn}
 use Rattle.board.specs.Numbers.{refusedOffer}
 use Rattle.board.proofs.Ways.{halves, no-offer-way, offered-way}

@@ -1,7 +1,7 @@
 -- `board::heechstjer_plan` meets its contract on each way through it. Assumes nothing.
 use mathlib.Core.Path.{ap, ap₂, _∙_}
-use Rattle.dispatch.specs.declared.Rows.{Rows}
-use Rattle.dispatch.specs.Steps.{freshIn}
+use Rattle.state.specs.declared.Rows.{Rows}
+use Rattle.state.specs.Fresh.{freshIn}
 use Rattle.block.specs.Layout.{imageOf}
 use Rattle.board.proofs.Ways.{encoded-whole, halves, planned-way, refused-way, short-way}
 use borrow.Author.Needs.{needs}

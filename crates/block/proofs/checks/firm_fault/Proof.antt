@@ -19,7 +19,7 @@ over-requires-3 : tie.Need-over-requires-3
 over-requires-3 c κs = search needs
 
 returns : tie.Need-returns
-returns c = cc
+returns c = rw (c .over3 .ensures, c .before .over2 .ensures, c .before .before .pick2 .ensures, c .before .before .before .pick .ensures, c .before .before .before .before .over .ensures)
 
 pub firm-fault-spec : {M : Type 1} → statement M
 firm-fault-spec =

@@ -3,7 +3,7 @@ use Prim.Native.Nat.{_+_, _-_, _≤_}
 use mathlib.Core.Path.{_≡_, refl, sym}
 use lib.ListN.{length}
 use native.Mathlib.Omega.{arith}
-use Rattle.dispatch.specs.Meaning.{entry}
+use Rattle.state.specs.Meaning.{entry}
 use Rattle.block.specs.Tests.{freeOk, orOf}
 use Rattle.block.proofs.Ors.{or-next, or-start}
 use borrow.Author.Needs.{needs}

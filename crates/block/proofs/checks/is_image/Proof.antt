@@ -31,8 +31,8 @@ shared-slice-read-size-3 c = search needs
 size-requires-3 : tie.Need-size-requires-3
 size-requires-3 c κs = search needs
 
-below-requires : tie.Need-below-requires
-below-requires c κs = search needs
+known-rows-requires : tie.Need-known-rows-requires
+known-rows-requires c κs = search needs
 
 table-good-requires : tie.Need-table-good-requires
 table-good-requires c κs = search needs
@@ -60,7 +60,7 @@ returns-3 c =
       c .before .before .times-good .ensures,
       c .before .before .before .jobs-good .ensures,
       c .before .before .before .before .table-good .ensures,
-      c .before .before .before .before .before .below .ensures,
+      c .before .before .before .before .before .known-rows .ensures,
       ← c .before .before .before .before .before .before .size3 .ensures .0,
       ← some .before .size .ensures .0,
       le-ltb _ _ (some .if1 .left),
@@ -80,7 +80,7 @@ is-image-spec =
     returns-2
     shared-slice-read-size-3
     size-requires-3
-    below-requires
+    known-rows-requires
     table-good-requires
     jobs-good-requires
     times-good-requires

@@ -4,8 +4,8 @@ use borrow.Author.Needs.{needs}
 use Rattle.block.proofs.checks.queue_good.Statement.{statement}
 use Rattle.block.proofs.checks.queue_good.Tie as tie
 
-below-requires : tie.Need-below-requires
-below-requires c κs = search needs
+known-rows-requires : tie.Need-known-rows-requires
+known-rows-requires c κs = search needs
 
 firm-mark-requires : tie.Need-firm-mark-requires
 firm-mark-requires c κs = search needs
@@ -26,13 +26,13 @@ returns : tie.Need-returns
 unfolding queueTest
 returns c =
     let firms = c .before .before .before in
-    rw (c .tickets-good .ensures, c .before .first-ticket .ensures, c .before .before .get32 .ensures, firms .firms-good .ensures, firms .before .firm-mark .ensures, firms .before .before .below .ensures)
+    rw (c .tickets-good .ensures, c .before .first-ticket .ensures, c .before .before .get32 .ensures, firms .firms-good .ensures, firms .before .firm-mark .ensures, firms .before .before .known-rows .ensures)
 
 pub queue-good-spec : {M : Type 1} → statement M
 queue-good-spec =
     tie.close
     (tie.spec
-    below-requires
+    known-rows-requires
     firm-mark-requires
     firms-good-requires
     get32-requires

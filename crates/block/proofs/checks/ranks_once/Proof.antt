@@ -42,8 +42,8 @@ loop-again c =
     let a = k .before .before .args in
     (search needs, search needs, or-next (rankBit (a .b .now)) (k .loop .i) (k .loop .x) (c .mark .result) (k .loop .inv .2) (c .mark .ensures ∙ rw (c .before .size .ensures .0)))
 
-below-requires : tie.Need-below-requires Inv-loop μ-loop
-below-requires c κs = search needs
+known-rows-requires : tie.Need-known-rows-requires Inv-loop μ-loop
+known-rows-requires c κs = search needs
 
 cast-result : tie.Need-cast-result Inv-loop μ-loop
 cast-result c = search needs
@@ -53,7 +53,7 @@ unfolding ranksOnce
 returns c =
     let l = c .before .before .loop in
     let e : l .i ≡ c .before .before .before .before .args .n = omega arith in
-    rw (rw e at (l .inv .2), c .below .ensures)
+    rw (rw e at (l .inv .2), c .known-rows .ensures)
 
 pub ranks-once-spec : {M : Type 1} → statement M
 ranks-once-spec =
@@ -69,6 +69,6 @@ ranks-once-spec =
     add-i
     loop-less
     loop-again
-    below-requires
+    known-rows-requires
     cast-result
     returns)

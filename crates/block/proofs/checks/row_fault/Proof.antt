@@ -36,7 +36,19 @@ over-requires-7 c κs = search needs
 
 returns : tie.Need-returns
 unfolding rowFault
-returns c = cc
+returns c =
+    rw (
+      c .over7 .ensures,
+      c .before .pick3 .ensures,
+      c .before .before .over6 .ensures,
+      c .before .before .before .pick2 .ensures,
+      c .before .before .before .before .pick .ensures,
+      c .before .before .before .before .before .over5 .ensures,
+      c .before .before .before .before .before .before .over4 .ensures,
+      c .before .before .before .before .before .before .before .over3 .ensures,
+      c .before .before .before .before .before .before .before .before .over2 .ensures,
+      c .before .before .before .before .before .before .before .before .before .over .ensures,
+    )
 
 pub row-fault-spec : {M : Type 1} → statement M
 row-fault-spec =

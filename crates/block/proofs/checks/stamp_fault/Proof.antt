@@ -3,8 +3,8 @@ use borrow.Author.Needs.{needs}
 use Rattle.block.proofs.checks.stamp_fault.Statement.{statement}
 use Rattle.block.proofs.checks.stamp_fault.Tie as tie
 
-age-requires : tie.Need-age-requires
-age-requires c κs = search needs
+since-requires : tie.Need-since-requires
+since-requires c κs = search needs
 
 wider-requires : tie.Need-wider-requires
 wider-requires c κs = search needs
@@ -16,8 +16,8 @@ pick32-requires-2 : tie.Need-pick32-requires-2
 pick32-requires-2 c κs = search needs
 
 returns : tie.Need-returns
-returns c = cc
+returns c = rw (c .pick322 .ensures, c .before .pick32 .ensures, c .before .before .wider .ensures .0, c .before .before .before .since .ensures)
 
 pub stamp-fault-spec : {M : Type 1} → statement M
 stamp-fault-spec =
-    tie.close (tie.spec age-requires wider-requires pick32-requires pick32-requires-2 returns)
+    tie.close (tie.spec since-requires wider-requires pick32-requires pick32-requires-2 returns)

@@ -3,7 +3,7 @@ use Prim.Native.Nat.{_+_, _-_, _≤_}
 use mathlib.Core.Path.{_≡_, refl, sym}
 use lib.ListN.{length, take, length-set}
 use native.Mathlib.Omega.{arith}
-use Rattle.dispatch.specs.Meaning.{entry}
+use Rattle.state.specs.Meaning.{entry}
 use Rattle.block.specs.Words.{bytesAt}
 use Rattle.block.proofs.Arrays.{read-none, read-more, read-all}
 use borrow.Author.Needs.{needs}

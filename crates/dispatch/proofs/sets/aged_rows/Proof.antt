@@ -2,7 +2,7 @@
 use Prim.Native.Nat.{_-_, _^_, _≤_}
 use mathlib.Core.Bool.{cond}
 use mathlib.Core.Path.{_≡_, _∙_, refl}
-use Rattle.dispatch.specs.Sets.{agedAt, rowsThat}
+use Rattle.dispatch.specs.Loops.{agedAt, rowsThat}
 use Rattle.dispatch.proofs.Loops.{that-lt, that-next}
 use borrow.Author.Needs.{needs}
 use native.Mathlib.Omega.{arith}

@@ -1,7 +1,7 @@
 -- `dispatch::sets::lowest` meets its contract. There are at most sixteen zeros. Assumes nothing.
 use lib.Dec.{lit<}
 use native.Mathlib.Nat.{lt-of-le-of-lt}
-use Rattle.dispatch.proofs.Bits.{least-le}
+use Rattle.state.proofs.Bits.{least-le}
 use borrow.Author.Needs.{needs}
 use Rattle.dispatch.proofs.sets.lowest.Statement.{statement}
 use Rattle.dispatch.proofs.sets.lowest.Tie as tie

@@ -1,7 +1,7 @@
 -- `dispatch::sets::lowest_rank` meets its contract. The loop goes from one row of the set to the next: what is left of the fold is from there on, with the best so far. Assumes nothing.
 use Prim.Native.Nat.{_-_}
 use mathlib.Core.Path.{_≡_, _∙_, sym}
-use Rattle.dispatch.specs.Sets.{foldRows, lowAt, noBest}
+use Rattle.dispatch.specs.Loops.{foldRows, lowAt, noBest}
 use Rattle.dispatch.proofs.Loops.{InSet, fold-done, least-set, low-first, low-next, next-set}
 use borrow.Author.Needs.{needs}
 use Rattle.dispatch.proofs.sets.lowest_rank.Statement.{statement}

@@ -1,6 +1,6 @@
 -- `dispatch::sets::next` meets its contract. A sum of two rows fits. Assumes nothing.
 use Prim.Native.Nat.{_/_, _^_}
-use Rattle.dispatch.proofs.Bits.{least-le}
+use Rattle.state.proofs.Bits.{least-le}
 use native.Mathlib.Omega.{arith}
 use borrow.Author.Needs.{needs}
 use Rattle.dispatch.proofs.sets.next.Statement.{statement}

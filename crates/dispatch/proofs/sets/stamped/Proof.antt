@@ -2,7 +2,7 @@
 use Prim.Native.Nat.{_-_, _≤_}
 use mathlib.Core.Path.{_≡_, _∙_, sym}
 use lib.ListN.{getD}
-use Rattle.dispatch.specs.Sets.{marked, upto}
+use Rattle.dispatch.specs.Loops.{marked, upto}
 use Rattle.dispatch.proofs.Loops.{upto-next, upto-none}
 use borrow.Author.Needs.{needs}
 use native.Mathlib.Omega.{arith}

@@ -1,7 +1,7 @@
 -- `dispatch::steps::choose` meets its contract. Each way out is that of the definition. Assumes nothing.
 use mathlib.Core.Path.{_≡_, _∙_, sym}
 use borrow.Author.Tests.{le-ltb, lt-ltb}
-use Rattle.dispatch.specs.Sets.{least}
+use Rattle.state.specs.Sets.{least}
 use Rattle.dispatch.specs.Steps.{promotedRows}
 use borrow.Author.Needs.{needs}
 use Rattle.dispatch.proofs.steps.choose.Statement.{statement}

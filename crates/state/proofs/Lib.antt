@@ -1,0 +1,9 @@
+pub mod Bools
+pub mod Bits
+pub mod Positions
+pub mod Agrees
+pub mod Widths
+pub mod Entries
+pub mod RefineFresh
+pub mod PlannedRows
+pub mod OneResult
