@@ -1,0 +1,80 @@
+-- `words::put16f` meets its contract: one number after another is put. Assumes nothing.
+use Prim.Native.Nat.{_+_, _*_, _-_, _≤_}
+use mathlib.Core.Path.{_≡_, refl, _∙_}
+use lib.ListN.{length, take}
+use lib.Seq.{sets}
+use native.Mathlib.Omega.{arith}
+use Rattle.block.specs.Words.{two, joined}
+use Rattle.block.proofs.Arrays.{put-all, put-more, put-none}
+use borrow.Author.Needs.{needs}
+use Rattle.image.proofs.words.put16f.Statement.{statement}
+use Rattle.image.proofs.words.put16f.Tie as tie
+
+abbrev Inv-loop : tie.InvT-loop
+Inv-loop b₀ at a i₀ b i = (i ≤ 8) × (length b ≡ length b₀) × (b ≡ sets b₀ at (joined two (take i a)))
+
+abbrev μ-loop : tie.MeasureT-loop
+μ-loop b₀ at a i₀ b i = 8 - i
+
+loop-holds : tie.Need-loop-holds Inv-loop μ-loop
+loop-holds c =
+    let a = c .before .args in
+    (search needs, search needs, put-none two (a .b .now) (a .t3) (a .at))
+
+mul-put16 : tie.Need-mul-put16 Inv-loop μ-loop
+mul-put16 c = search needs
+
+add-put16 : tie.Need-add-put16 Inv-loop μ-loop
+add-put16 c = search needs
+
+mul-put16-2 : tie.Need-mul-put16-2 Inv-loop μ-loop
+mul-put16-2 c = search needs
+
+array-read-put16 : tie.Need-array-read-put16 Inv-loop μ-loop
+array-read-put16 c = search needs
+
+put16-requires : tie.Need-put16-requires Inv-loop μ-loop
+put16-requires c κs = search needs
+
+add-i : tie.Need-add-i Inv-loop μ-loop
+add-i c = search needs
+
+loop-less : tie.Need-loop-less Inv-loop μ-loop
+loop-less c = search needs
+
+loop-again : tie.Need-loop-again Inv-loop μ-loop
+loop-again c =
+    let l = c .before .before .before .before .before .loop in
+    let a = c .before .before .before .before .before .before .before .args in
+    let p = c .before .before .put16 in
+    let long : length (a .t3) ≡ 8 = search needs in
+    (search needs, p .kept .0 ∙ l .inv .1, put-more two 2 (λ x. refl) (a .b .now) (a .t3) (a .at) (a .at + 2 * l .i) (l .i) (omega arith) (omega arith) (l .inv .2) (p .ensures .stored))
+
+same-length : tie.Need-same-length Inv-loop μ-loop
+same-length c = search needs
+
+returns : tie.Need-returns Inv-loop μ-loop
+returns c =
+    let l = c .before .loop in
+    let a = c .before .before .before .args in
+    let long : length (a .t3) ≡ 8 = search needs in
+    let end : l .i ≡ 8 = omega arith in
+    rw end at (put-all two 2 (λ x. refl) (a .b .now) (a .t3) (a .at) (l .i) (omega arith) (l .inv .2))
+
+pub put16f-spec : {M : Type 1} → statement M
+put16f-spec =
+    tie.close
+    (tie.spec
+    Inv-loop
+    μ-loop
+    loop-holds
+    mul-put16
+    add-put16
+    mul-put16-2
+    array-read-put16
+    put16-requires
+    add-i
+    loop-less
+    loop-again
+    same-length
+    returns)
