@@ -12,9 +12,9 @@ use Rattle.rules.specs.Tables.{Bytes, RowNarrow}
 use Rattle.rules.proofs.Files.{read-scanned}
 use Rattle.rules.proofs.Results.{table-promises}
 use Rattle.rules.proofs.Scan.{scan-whole}
+use Rattle.table.proofs.Places.{length-fill}
 use Rattle.state.specs.Fresh.{rowsFor, freshIn}
 use Rattle.state.proofs.PlannedRows.{planned-fresh}
-use Rattle.table.proofs.Places.{length-fill}
 use Rattle.block.specs.Layout.{Long, imageOf}
 use Rattle.board.proofs.Held.{Held}
 

@@ -6,25 +6,27 @@ use mathlib.Core.Path.{_≡_, refl, sym, ap, ap₂, subst}
 use borrow.Author.Tests.{eq-eqb}
 use lib.ListN.{length}
 use Rattle.rules.specs.Calls.{AllShort, Call, Short, after, afterOffer, afterTick, doneFlag, offer-call, otherFlag, replies, softFlag, step, tick-call}
+use Rattle.rules.specs.Image.{isImage}
 use Rattle.rules.specs.Offer.{Offered, accepted, no-offer, offer}
 use Rattle.rules.specs.Refusals.{number, refusal, unknown-flag}
 use Rattle.rules.specs.Station.{Station}
+use Rattle.rules.specs.Tables.{Bytes}
 use Rattle.rules.specs.Tick.{Ticked, no-tick, tick, ticked}
-use Rattle.offer.specs.declared.OfferMade.{OfferMade}
 use Rattle.state.specs.declared.Rows.{Rows}
 use Rattle.state.specs.declared.State.{State}
-use Rattle.dispatch.specs.declared.Ticked as memory
 use Rattle.state.specs.Meaning.{Stored, stationOf}
-use Rattle.offer.specs.Answers.{OfferIs}
-use Rattle.offer.specs.Steps.{offerMade}
+use Rattle.dispatch.specs.declared.Ticked as memory
 use Rattle.dispatch.specs.Refines.{TickRefines}
 use Rattle.dispatch.specs.Steps.{tickIn}
-use Rattle.offer.proofs.Refine.{offer-refines}
 use Rattle.dispatch.proofs.Refine.{tick-refines}
+use Rattle.offer.specs.declared.OfferMade.{OfferMade}
+use Rattle.offer.specs.Answers.{OfferIs}
+use Rattle.offer.specs.Steps.{offerMade}
+use Rattle.offer.proofs.Refine.{offer-refines}
 use Rattle.block.specs.Image.{Imaged}
 use Rattle.block.specs.Layout.{imageOf, writtenOn}
 use Rattle.block.proofs.Results.{block-promises}
-use Rattle.block.specs.Tests.{decodedAs}
+use Rattle.block.specs.Tests.{decodedAs, decodedOf}
 use Rattle.board.specs.declared.OfferAnswer.{OfferAnswer}
 use Rattle.board.specs.declared.TickAnswer.{TickAnswer}
 use Rattle.board.specs.Blocks.{Out, giving, madeOn, offerBlock, offerDecoded, tickBlock, tickDecoded, tickedOn}
@@ -135,3 +137,14 @@ replies-held (c ∷ cs) b st (h, hs) H =
 pub after-held : (cs : List Call) (b : List ℕ) (st : Station) → AllShort cs → Held b st → Held (blockAfter b cs) (after st cs)
 after-held [] b st h H = H
 after-held (c ∷ cs) b st (h, hs) H = after-held cs (blockOn b c) (step st c .station) hs (step-held b st c h H .1)
+
+-- any bytes that decode accepts hold a station of document 01's conditions
+pub accepted-held : (b : List ℕ) → Bytes b → decodedOf b .ok ≡ true → (st : Station) × (isImage st ≡ true) × Held b st
+accepted-held b bytes ok =
+    let x = decodedOf b in
+    let decoded : x ≡ decodedAs (x .rows) (x .state) = λ i. record { ok = ok i; rows = x .rows; state = x .state } in
+    let (is, imaged) = block-promises .decode-only b bytes (x .rows) (x .state) decoded in (
+      stationOf (x .rows) (x .state),
+      imaged .stored .image,
+      record { rows = x .rows; state = x .state; imaged = imaged; block-is = sym is; station-is = refl },
+    )

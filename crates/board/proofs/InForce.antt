@@ -30,7 +30,7 @@ unfolding rowsFrom
 rows-are rows s i zero = refl
 rows-are rows s i (suc n) = ap (λ rs. rowAt (tableIn rows) i ∷ rs) (rows-are rows s (suc i) n)
 
-table-held : {b : List ℕ} {st : Station} → Held b st → (out : List ℕ) → tableBlock b out ≡ writingOn (write (rowsOf (st .slots)) out) out
+pub table-held : {b : List ℕ} {st : Station} → Held b st → (out : List ℕ) → tableBlock b out ≡ writingOn (write (rowsOf (st .slots)) out) out
 unfolding tableBlock stationOf
 table-held H out =
     rw (decoded H, ← (H .station-is)) (ap (λ rs. writingOn (write rs out) out) (rows-are (H .rows) (H .state) 0 (H .rows .n)))

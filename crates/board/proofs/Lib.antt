@@ -4,6 +4,7 @@ pub mod Held
 pub mod Fresh
 pub mod Refusals
 pub mod InForce
+pub mod TableNumbers
 pub mod Shown
 pub mod OneResult
 pub mod Results

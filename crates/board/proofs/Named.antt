@@ -11,8 +11,8 @@ use Rattle.rules.specs.Lists.{find, firstOf, orElse, unless}
 use Rattle.rules.specs.Refusals.{B-zero, C-over-D, C-zero, D-over-T, Refusal, after-end, atRow, bad-rank, cut, d-under-B, none-ran, not-image, not-ready, number, passes-D, queue-full, refusal, room-short, row-17, small-output, unknown-flag, unknown-row, unknown-tag, wrong-length}
 use Rattle.rules.specs.Station.{Station}
 use Rattle.rules.specs.Tick.{Answer, Closing, Runner, Ticked, close, done, firm, firm-job, hard, hard-job, idle, lower, no-tick, noneRan, nothing, soft, spent, stepped, tick, ticked, unknown, unready, upper}
-use Rattle.dispatch.specs.Answers.{answerOf, closingOf, runnerOf, verdictOf}
 use Rattle.state.specs.declared.State.{State}
+use Rattle.dispatch.specs.Answers.{answerOf, closingOf, runnerOf, verdictOf}
 use Rattle.board.specs.declared.ClosingNumbers.{ClosingNumbers}
 use Rattle.board.specs.declared.RunnerNumbers.{RunnerNumbers}
 use Rattle.board.specs.Numbers.{closingNumbers, runnerNumbers, steppedTick, tickNumbers}

@@ -11,16 +11,16 @@ use Rattle.rules.specs.File.{Reading, Writing, read, read-as, unread, unwritten
 use Rattle.rules.specs.Refusals.{not-image, number, unknown-flag}
 use Rattle.rules.specs.Station.{Station}
 use Rattle.table.specs.Memory.{rowsOf}
-use Rattle.offer.specs.declared.Offered.{Offered}
-use Rattle.offer.specs.declared.Offered.the-variants.{Refused, Ticket}
-use Rattle.offer.specs.declared.OfferMade.{OfferMade}
 use Rattle.state.specs.declared.Rows.{Rows}
 use Rattle.state.specs.declared.State.{State}
 use Rattle.dispatch.specs.declared.Ticked.{Ticked}
 use Rattle.dispatch.specs.declared.Verdict.{Verdict}
 use Rattle.dispatch.specs.declared.Verdict.the-variants.{NoneRan, NotReady, Stepped, Unknown}
-use Rattle.offer.specs.Steps.{claimsOf, offerMade, refusedBy, ticketFor, unrunOf}
 use Rattle.dispatch.specs.Steps.{tickIn}
+use Rattle.offer.specs.declared.Offered.{Offered}
+use Rattle.offer.specs.declared.Offered.the-variants.{Refused, Ticket}
+use Rattle.offer.specs.declared.OfferMade.{OfferMade}
+use Rattle.offer.specs.Steps.{claimsOf, offerMade, refusedBy, ticketFor, unrunOf}
 use Rattle.block.specs.Tests.{decodedAs, decodedOf}
 use Rattle.block.proofs.Results.{block-promises}
 use Rattle.board.specs.Blocks.{giving, madeOn, offerBlock, offeredOn, planBlock, planOf, tableBlock, tableIn, tickBlock, tickDecoded, tickedOn, verdictOn, writingOn}

@@ -20,16 +20,13 @@ use Rattle.rules.specs.Tables.{Bytes}
 use Rattle.rules.specs.Tick.{Answer, Ticked, closedAs, done, no-tick, ticked}
 use Rattle.rules.proofs.Calls.{on-call}
 use Rattle.rules.proofs.Results.{demand-3, done-is-told, in-true-time}
-use Rattle.state.specs.Meaning.{stationOf}
 use Rattle.state.specs.Fresh.{rowsFor, freshIn}
 use Rattle.block.specs.Layout.{imageOf}
-use Rattle.block.specs.Tests.{decodedAs, decodedOf}
-use Rattle.block.proofs.Results.{block-promises}
 use Rattle.board.specs.Blocks.{giving, planBlock, planOf}
 use Rattle.board.specs.Numbers.{refusedPlan}
 use Rattle.board.specs.Promises.{AnyBlock, HardOnBlock, OnBlocks, Promises, UploadOnBlock, blockAfter, blockOn, blockReplies, replyOn}
 use Rattle.board.proofs.Fresh.{fresh-held, planned-rows}
-use Rattle.board.proofs.Held.{Held, after-held, replies-held, step-held}
+use Rattle.board.proofs.Held.{Held, accepted-held, after-held, replies-held, step-held}
 use Rattle.board.proofs.InForce.{table-19, table-back}
 use Rattle.board.proofs.Named.{named-back}
 use Rattle.board.proofs.Refusals.{offer-not-11, tick-not-11}
@@ -110,13 +107,7 @@ module _ (file : List ℕ) (bytes : Bytes file) (ps : List PlannedRow) (is-read 
 
 -- of any bytes that decode accepts
 pub any-block : AnyBlock
-any-block b bytes ok =
-    let x = decodedOf b in
-    let decoded : x ≡ decodedAs (x .rows) (x .state) = λ i. record { ok = ok i; rows = x .rows; state = x .state } in
-    let (is, imaged) = block-promises .decode-only b bytes (x .rows) (x .state) decoded in
-    let st = stationOf (x .rows) (x .state) in
-    let H : Held b st = record { rows = x .rows; state = x .state; imaged = imaged; block-is = sym is; station-is = refl } in
-    (st, imaged .stored .image, λ cs h. replies-held cs b st h H)
+any-block b bytes ok = let (st, image, H) = accepted-held b bytes ok in (st, image, λ cs h. replies-held cs b st h H)
 
 -- where planning answers 0
 pub promises : Promises

@@ -16,15 +16,15 @@ use Rattle.table.specs.declared.Table.{Table}
 use Rattle.table.specs.declared.TableRead.{TableRead}
 use Rattle.table.specs.declared.Verdict as table
 use Rattle.table.specs.declared.Written.{Written}
-use Rattle.offer.specs.declared.Offered.{Offered}
-use Rattle.offer.specs.declared.OfferMade.{OfferMade}
 use Rattle.state.specs.declared.Rows.{Rows}
 use Rattle.state.specs.declared.State.{State}
+use Rattle.state.specs.Fresh.{plannedRows, freshIn}
 use Rattle.dispatch.specs.declared.Ticked.{Ticked}
 use Rattle.dispatch.specs.declared.Verdict.{Verdict}
-use Rattle.offer.specs.Steps.{offerMade}
-use Rattle.state.specs.Fresh.{plannedRows, freshIn}
 use Rattle.dispatch.specs.Steps.{tickIn}
+use Rattle.offer.specs.declared.Offered.{Offered}
+use Rattle.offer.specs.declared.OfferMade.{OfferMade}
+use Rattle.offer.specs.Steps.{offerMade}
 use Rattle.block.specs.declared.Decoded.{Decoded}
 use Rattle.block.specs.Layout.{encodedOn, imageOf}
 use Rattle.block.specs.Tests.{decodedOf}

@@ -10,17 +10,17 @@ use Rattle.rules.specs.Refusals.{none-ran, not-image, not-ready, number, unknow
 use Rattle.table.specs.Answers.{heldOf, writtenOf}
 use Rattle.table.specs.Memory.{rowsOf}
 use Rattle.table.specs.declared.Table.{Table}
-use Rattle.offer.specs.Steps.{offerMade}
 use Rattle.state.specs.Fresh.{rowsFor, freshIn}
-use Rattle.dispatch.specs.Steps.{tickIn}
-use Rattle.offer.specs.declared.Offered.{Offered}
-use Rattle.offer.specs.declared.Offered.the-variants.{Refused, Ticket}
-use Rattle.offer.specs.declared.OfferMade.{OfferMade}
 use Rattle.state.specs.declared.Rows.{Rows}
 use Rattle.state.specs.declared.State.{State}
+use Rattle.dispatch.specs.Steps.{tickIn}
 use Rattle.dispatch.specs.declared.Ticked.{Ticked}
 use Rattle.dispatch.specs.declared.Verdict.{Verdict}
 use Rattle.dispatch.specs.declared.Verdict.the-variants.{Stepped, Unknown, NoneRan, NotReady}
+use Rattle.offer.specs.Steps.{offerMade}
+use Rattle.offer.specs.declared.Offered.{Offered}
+use Rattle.offer.specs.declared.Offered.the-variants.{Refused, Ticket}
+use Rattle.offer.specs.declared.OfferMade.{OfferMade}
 use Rattle.block.specs.Layout.{imageOf, writtenOn}
 use Rattle.block.specs.Tests.{decodedOf}
 use Rattle.block.specs.declared.Decoded.{Decoded}

@@ -96,6 +96,14 @@ abbrev pub AnyBlock : Type 0
 AnyBlock = (b : List ℕ) → Bytes b → decodedOf b .ok ≡ true
     → (st : Station) × (isImage st ≡ true) × ((cs : List Call) → AllShort cs → blockReplies b cs ≡ replies st cs)
 
+-- accepted, or refused with 10, 11 or 19
+abbrev pub TableNumber : ℕ → Type 0
+TableNumber refusal = (refusal ≡ 0) ⊎ ((refusal ≡ 10) ⊎ ((refusal ≡ 11) ⊎ (refusal ≡ 19)))
+
+-- THE TABLE READ BACK, of any bytes: the table of every image passes 5 to 9
+abbrev pub TableNumbers : Type 0
+TableNumbers = (b out : List ℕ) → Bytes b → TableNumber (tableBlock b out .answer .refusal)
+
 -- PLANNING, where 6 to 10 refuse a row: its number, and its ten bytes
 abbrev pub RowNamed : Type 0
 RowNamed = (file b : List ℕ) → Bytes file → length b ≡ 512 → (rs : List Row) → scan 16 0 file ≡ whole rs → (x : Refused) → plan rs ≡ unplanned x

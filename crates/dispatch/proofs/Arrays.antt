@@ -14,11 +14,11 @@ use borrow.Author.Tests.{eq-eqb, eqb-false, eqb-true, ne-eqb}
 use Rattle.rules.specs.Tick.{bit}
 use Rattle.state.specs.Meaning.{entry}
 use Rattle.state.specs.Sets.{others}
+use Rattle.state.proofs.Bits.{bit-and, bit-one, bit-or, bit-others, bit-past, bit-zero}
+use Rattle.state.proofs.Bools.{and-no, and-yes, or-no}
 use Rattle.dispatch.specs.Loops.{marked, rowsThat, upto}
 use Rattle.dispatch.specs.Steps.{shifted}
-use Rattle.state.proofs.Bits.{bit-and, bit-one, bit-or, bit-others, bit-past, bit-zero}
 use Rattle.dispatch.proofs.Loops.{that-lt}
-use Rattle.state.proofs.Bools.{and-no, and-yes, or-no}
 
 pub past-end : (a : List ℕ) (i : ℕ) → length a ≤ i → entry a i ≡ 0
 past-end a i h = List·getD-eq-default a 0 h

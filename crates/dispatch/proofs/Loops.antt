@@ -12,11 +12,11 @@ use lib.Dec.{lit<}
 use lib.ListN.{length, getD, set}
 use lib.Pow.{pow-pos}
 use Rattle.rules.specs.Tick.{bit}
-use Rattle.dispatch.specs.declared.sets.Best.{Best}
 use Rattle.state.specs.Sets.{least}
-use Rattle.dispatch.specs.Loops.{foldRows, lowAt, better, rowsThat, upto}
 use Rattle.state.specs.Meaning.{entry}
 use Rattle.state.proofs.Bits.{bit-above, least-below, least-in}
+use Rattle.dispatch.specs.declared.sets.Best.{Best}
+use Rattle.dispatch.specs.Loops.{foldRows, lowAt, better, rowsThat, upto}
 
 -- the rows that pass a test, one after the other
 

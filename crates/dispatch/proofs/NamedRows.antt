@@ -8,18 +8,18 @@ use lib.Bits.{bitAnd, bitOr}
 use lib.Dec.{eqb, ltb}
 use borrow.Author.Tests.{ltb-true}
 use Rattle.rules.specs.Tick.{bit}
-use Rattle.dispatch.specs.declared.Closing.the-variants.{FirmDone, FirmSpent, HardDone, HardSpent, Nothing}
 use Rattle.state.specs.declared.Rows.{Rows}
+use Rattle.state.specs.declared.State.{State}
+use Rattle.state.specs.Meaning.{entry}
+use Rattle.state.specs.Sets.{known, least, others}
+use Rattle.dispatch.specs.declared.Closing.the-variants.{FirmDone, FirmSpent, HardDone, HardSpent, Nothing}
 use Rattle.dispatch.specs.declared.Runner.the-variants.{Firm, Hard, Idle, Soft}
 use Rattle.dispatch.specs.declared.Band.the-variants.{Lower, Upper}
-use Rattle.state.specs.declared.State.{State}
 use Rattle.dispatch.specs.declared.Ticked.{Ticked}
 use Rattle.dispatch.specs.declared.Verdict.{Verdict}
 use Rattle.dispatch.specs.declared.Verdict.the-variants.{NoneRan, NotReady, Unknown}
 use Rattle.dispatch.specs.declared.sets.Best.{Best}
 use Rattle.dispatch.specs.Below.{ClosingBelow, RunnerBelow, VerdictBelow}
-use Rattle.state.specs.Meaning.{entry}
-use Rattle.state.specs.Sets.{known, least, others}
 use Rattle.dispatch.specs.Loops.{foldRows, lowAt, noBest}
 use Rattle.dispatch.specs.Steps.{chosenIn, closedBy, closingIn, lowerOf, promotedRows, readied, releasedBy, steppedIn, tickIn}
 

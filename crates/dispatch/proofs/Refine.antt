@@ -25,23 +25,23 @@ use Rattle.rules.proofs.Tickets.{close-tickets}
 use Rattle.rules.proofs.Walks.{all-both, each-all}
 use Rattle.state.specs.declared.Rows.{Rows}
 use Rattle.state.specs.declared.State.{State}
+use Rattle.state.specs.Meaning.{Kept, Stored, entry, firmAt, lastOf, rowsFrom, slotAt, slotsOf, stationOf, wrapped}
+use Rattle.state.specs.Sets.{known, least, others}
+use Rattle.state.proofs.Agrees.{Agrees}
+use Rattle.state.proofs.Bits.{bit-and, bit-known, bit-or, bit-others, bit-past, first-least, found, known-lt, least-below}
+use Rattle.state.proofs.Positions.{all-rows, find-least, first-row, length-rows}
+use Rattle.state.proofs.Widths.{U-le, image-of, positive, row-good, thin}
+use Rattle.state.proofs.Bools.{and-yes, leb-ltb}
 use Rattle.dispatch.specs.declared.Ticked.{Ticked}
 use Rattle.dispatch.specs.declared.Verdict.the-variants.{NoneRan, NotReady, Stepped, Unknown}
 use Rattle.dispatch.specs.Answers.{answerOf, runnerOf, verdictOf}
-use Rattle.state.specs.Meaning.{Kept, Stored, entry, firmAt, lastOf, rowsFrom, slotAt, slotsOf, stationOf, wrapped}
 use Rattle.dispatch.specs.Refines.{TickRefines}
-use Rattle.state.specs.Sets.{known, least, others}
 use Rattle.dispatch.specs.Steps.{advanced, closedBy, closingIn, ranIn, readied, releasedBy, steppedIn, tickIn}
-use Rattle.state.proofs.Agrees.{Agrees}
 use Rattle.dispatch.proofs.Arrays.{bit-minus}
-use Rattle.state.proofs.Bits.{bit-and, bit-known, bit-or, bit-others, bit-past, first-least, found, known-lt, least-below}
-use Rattle.state.proofs.Positions.{all-rows, find-least, first-row, length-rows}
 use Rattle.dispatch.proofs.RefineChoose.{choose-refines}
 use Rattle.dispatch.proofs.RefineClose.{close-refines, first-others}
 use Rattle.dispatch.proofs.RefineRelease.{release-kept, release-refines}
 use Rattle.dispatch.proofs.RefineRun.{run-refines}
-use Rattle.state.proofs.Widths.{U-le, image-of, positive, row-good, thin}
-use Rattle.state.proofs.Bools.{and-yes, leb-ltb}
 
 -- as TickRefines, but for the image
 abbrev Steps : Rows → State → rules.Ticked → Ticked → Type 0

@@ -14,13 +14,13 @@ use Rattle.state.specs.declared.Rows.{Rows}
 use Rattle.state.specs.declared.State.{State}
 use Rattle.state.specs.Meaning.{Kept, ageAt, entry, jobAt, rowAt, slotAt, slotsOf, wrapped}
 use Rattle.state.specs.Sets.{known}
+use Rattle.state.proofs.Bits.{bit-and, bit-known, bit-or}
+use Rattle.state.proofs.Positions.{each-rows}
+use Rattle.state.proofs.Bools.{and-no, and-yes}
 use Rattle.dispatch.specs.Loops.{agedAt, marked, rowsThat, upto}
 use Rattle.dispatch.specs.Steps.{advanced, nextClock, restedNext}
 use Rattle.dispatch.proofs.Arrays.{bit-that, length-upto, stamped-at}
-use Rattle.state.proofs.Bits.{bit-and, bit-known, bit-or}
 use Rattle.dispatch.proofs.Loops.{that-lt}
-use Rattle.state.proofs.Positions.{each-rows}
-use Rattle.state.proofs.Bools.{and-no, and-yes}
 
 -- one tick later the stamp is one tick longer ago, also where the clock rolls over
 pub age-next : (clock stamp : ℕ) → clock < 2 ^ 32 → stamp < 2 ^ 32 → wrapped clock stamp + 1 < 2 ^ 32 → wrapped ((clock + 1) % 2 ^ 32) stamp ≡ wrapped clock stamp + 1

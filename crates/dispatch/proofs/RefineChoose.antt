@@ -12,19 +12,19 @@ use Rattle.rules.specs.Lists.{find, orElse}
 use Rattle.rules.specs.Station.{Slot, closed, isOpen, opened, promoted, unpromoted}
 use Rattle.rules.specs.Tick.{bit, choose, firmRunner, hard, idle, lower, lowest, softRunner, upper}
 use Rattle.rules.specs.Tick as rules
-use Rattle.dispatch.specs.declared.Band.the-variants.{Lower, Upper}
 use Rattle.state.specs.declared.Rows.{Rows}
-use Rattle.dispatch.specs.declared.Runner.the-variants.{Firm, Hard, Idle, Soft}
 use Rattle.state.specs.declared.State.{State}
-use Rattle.dispatch.specs.declared.sets.Best.{Best}
-use Rattle.dispatch.specs.Answers.{runnerOf}
 use Rattle.state.specs.Meaning.{Kept, ageAt, entry, firmAt, firmsOf, rowsFrom, slotAt, slotsOf, wrapped}
 use Rattle.state.specs.Sets.{least}
+use Rattle.state.proofs.Bits.{bit-and, bit-or, found, least-below}
+use Rattle.state.proofs.Positions.{find-least}
+use Rattle.dispatch.specs.declared.Band.the-variants.{Lower, Upper}
+use Rattle.dispatch.specs.declared.Runner.the-variants.{Firm, Hard, Idle, Soft}
+use Rattle.dispatch.specs.declared.sets.Best.{Best}
+use Rattle.dispatch.specs.Answers.{runnerOf}
 use Rattle.dispatch.specs.Loops.{agedAt, better, foldRows, lowAt, noBest, rowsThat}
 use Rattle.dispatch.specs.Steps.{chosenIn, lowerOf, promotedRows}
 use Rattle.dispatch.proofs.Arrays.{bit-that}
-use Rattle.state.proofs.Bits.{bit-and, bit-or, found, least-below}
-use Rattle.state.proofs.Positions.{find-least}
 
 -- a fold past the last row that counts
 fold-still : {B : Type 0} (f : ℕ → B → B) (i m : ℕ) (b : B) → ((j : ℕ) → i ≤ j → (c : B) → f j c ≡ c) → foldRows f i m b ≡ b

@@ -19,20 +19,20 @@ use Rattle.rules.proofs.Image.{Image}
 use Rattle.rules.proofs.Queue.{Other, others-not-full}
 use Rattle.rules.proofs.Tickets.{behind, without-others}
 use Rattle.rules.proofs.Walks.{Holds}
-use Rattle.dispatch.specs.declared.Closing.{Closing}
-use Rattle.dispatch.specs.declared.Closing.the-variants.{Nothing, HardDone, HardSpent, FirmDone, FirmSpent}
 use Rattle.state.specs.declared.Rows.{Rows}
 use Rattle.state.specs.declared.State.{State}
-use Rattle.dispatch.specs.Answers.{closingOf}
 use Rattle.state.specs.Meaning.{Kept, Stored, entry, firmAt, firmsOf, rowsFrom, slotAt, slotsOf, stationOf}
 use Rattle.state.specs.Sets.{others}
-use Rattle.dispatch.specs.Steps.{closedBy, closingIn, popped, shutRow}
 use Rattle.state.proofs.Agrees.{Agrees}
-use Rattle.dispatch.proofs.Arrays.{bit-minus, set-at, shift-at}
 use Rattle.state.proofs.Bits.{bit-one}
 use Rattle.state.proofs.Positions.{any-rows, each-rows, first-row, holds-rows, shift-rows}
 use Rattle.state.proofs.Widths.{image-of}
 use Rattle.state.proofs.Bools.{leb-ltb, or-no}
+use Rattle.dispatch.specs.declared.Closing.{Closing}
+use Rattle.dispatch.specs.declared.Closing.the-variants.{Nothing, HardDone, HardSpent, FirmDone, FirmSpent}
+use Rattle.dispatch.specs.Answers.{closingOf}
+use Rattle.dispatch.specs.Steps.{closedBy, closingIn, popped, shutRow}
+use Rattle.dispatch.proofs.Arrays.{bit-minus, set-at, shift-at}
 
 -- a hard job closes
 

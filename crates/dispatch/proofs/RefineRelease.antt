@@ -12,12 +12,12 @@ use Rattle.state.specs.declared.Rows.{Rows}
 use Rattle.state.specs.declared.State.{State}
 use Rattle.state.specs.Meaning.{Kept, entry, rowAt, slotAt, slotsOf, wrapped}
 use Rattle.state.specs.Sets.{others}
-use Rattle.dispatch.specs.Loops.{marked, upto}
-use Rattle.dispatch.specs.Steps.{releasedBy}
-use Rattle.dispatch.proofs.Arrays.{bit-minus, length-upto, stamped-at}
 use Rattle.state.proofs.Bits.{bit-or}
 use Rattle.state.proofs.Positions.{each-rows}
 use Rattle.state.proofs.Bools.{and-no, and-yes, or-no}
+use Rattle.dispatch.specs.Loops.{marked, upto}
+use Rattle.dispatch.specs.Steps.{releasedBy}
+use Rattle.dispatch.proofs.Arrays.{bit-minus, length-upto, stamped-at}
 
 age-now : (clock : ℕ) → clock < 2 ^ 32 → wrapped clock clock ≡ 0
 age-now clock h = omega arith

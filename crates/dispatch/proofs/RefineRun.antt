@@ -17,12 +17,12 @@ use Rattle.rules.proofs.Queue.{Other}
 use Rattle.rules.proofs.Walks.{Holds}
 use Rattle.state.specs.declared.Rows.{Rows}
 use Rattle.state.specs.declared.State.{State}
-use Rattle.dispatch.specs.Answers.{runnerOf}
 use Rattle.state.specs.Meaning.{Kept, entry, firmAt, firmsOf, jobAt, rowsFrom, slotAt, slotsOf, stationOf}
-use Rattle.dispatch.specs.Steps.{advanced, bumped, ranFirst, ranIn, ranNone, ranRow, reworked}
 use Rattle.state.proofs.Agrees.{station-is}
-use Rattle.dispatch.proofs.Arrays.{set-at}
 use Rattle.state.proofs.Positions.{first-row, holds-rows, same-rows}
+use Rattle.dispatch.specs.Answers.{runnerOf}
+use Rattle.dispatch.specs.Steps.{advanced, bumped, ranFirst, ranIn, ranNone, ranRow, reworked}
+use Rattle.dispatch.proofs.Arrays.{set-at}
 use Rattle.dispatch.proofs.RefineAdvance.{advance-kept, pass-slots}
 
 bumped-is : (x : ℕ) → x < 65535 → bumped x ≡ suc x

@@ -5,18 +5,18 @@ use mathlib.Core.List.{List, [], _∷_}
 use lib.Bits.{bitAnd, bitOr}
 use lib.Dec.{ltb, eqb}
 use lib.ListN.{set}
+use Rattle.state.specs.declared.Rows.{Rows}
+use Rattle.state.specs.declared.State.{State}
+use Rattle.state.specs.Meaning.{entry}
+use Rattle.state.specs.Sets.{known, least, others}
 use Rattle.dispatch.specs.declared.Band.the-variants.{Upper, Lower}
 use Rattle.dispatch.specs.declared.Closing.{Closing}
 use Rattle.dispatch.specs.declared.Closing.the-variants.{Nothing, HardDone, HardSpent, FirmDone, FirmSpent}
-use Rattle.state.specs.declared.Rows.{Rows}
 use Rattle.dispatch.specs.declared.Runner.{Runner}
 use Rattle.dispatch.specs.declared.Runner.the-variants.{Hard, Firm, Soft, Idle}
-use Rattle.state.specs.declared.State.{State}
 use Rattle.dispatch.specs.declared.Ticked.{Ticked}
 use Rattle.dispatch.specs.declared.Verdict.the-variants.{Stepped, Unknown, NoneRan, NotReady}
 use Rattle.dispatch.specs.declared.sets.Best.{Best}
-use Rattle.state.specs.Meaning.{entry}
-use Rattle.state.specs.Sets.{known, least, others}
 use Rattle.dispatch.specs.Loops.{agedAt, foldRows, lowAt, marked, noBest, rowsThat, upto}
 
 -- the state with these in place of its clock, open rows, rested rows and stamps

@@ -61,7 +61,8 @@ pub fn aged_rows(ticks: [u16; 16], stamp: [u32; 16], clock: u32) -> u16
     let mut rows: u32 = 0;
     let mut i: usize = 0;
     while i < 16 {
-        rows = rows | pick(wide(ticks[i]) <= state::since(clock, stamp[i]), one_wide(i), 0);
+        let aged = wide(ticks[i]) <= state::since(clock, stamp[i]);
+        rows = rows | pick(aged, one_wide(i), 0);
         i += 1;
     }
     rows as u16

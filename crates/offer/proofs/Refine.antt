@@ -18,14 +18,14 @@ use Rattle.rules.specs.Calls.{afterOffer, offer-call, step}
 use Rattle.rules.specs.Image.{isImage}
 use Rattle.rules.proofs.Facts.{FirstIs}
 use Rattle.rules.proofs.ImageIs.{image-iff, image-kept}
-use Rattle.offer.specs.declared.OfferMade.{OfferMade}
 use Rattle.state.specs.declared.Rows.{Rows}
 use Rattle.state.specs.declared.State.{State}
 use Rattle.state.specs.Meaning.{Kept, Stored, ageAt, entry, firmAt, firmsOf, lastOf, rowsFrom, slotAt, slotsOf, stationOf}
-use Rattle.offer.specs.Steps.{claimAt, claimsOf, offerMade, openOf, queuedIn, refusedBy, ticketFor, unrunOf}
-use Rattle.offer.specs.Answers.{OfferIs, offeredOf}
 use Rattle.state.proofs.Entries.{last-rows, total-rows}
 use Rattle.state.proofs.Positions.{length-rows, same-rows}
+use Rattle.offer.specs.declared.OfferMade.{OfferMade}
+use Rattle.offer.specs.Steps.{claimAt, claimsOf, offerMade, openOf, queuedIn, refusedBy, ticketFor, unrunOf}
+use Rattle.offer.specs.Answers.{OfferIs, offeredOf}
 
 -- the room
 

@@ -4,11 +4,11 @@ use mathlib.Core.Path.{_≡_}
 use Rattle.rules.specs.Refusals.{number}
 use Rattle.rules.specs.Offer as rules
 use Rattle.state.specs.Meaning.{Stored, stationOf}
+use Rattle.state.specs.declared.Rows.{Rows}
+use Rattle.state.specs.declared.State.{State}
 use Rattle.offer.specs.declared.Offered.{Offered}
 use Rattle.offer.specs.declared.Offered.the-variants.{Refused, Ticket}
 use Rattle.offer.specs.declared.OfferMade.{OfferMade}
-use Rattle.state.specs.declared.Rows.{Rows}
-use Rattle.state.specs.declared.State.{State}
 
 -- a ticket, or the number of a refusal
 abbrev pub offeredOf : rules.Offered → Offered

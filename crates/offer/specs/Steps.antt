@@ -6,10 +6,10 @@ use lib.ListN.{set}
 use Rattle.rules.specs.Lists.{sum}
 use Rattle.rules.specs.Tick.{bit}
 use Rattle.state.specs.Meaning.{ageAt, entry, wrapped}
-use Rattle.offer.specs.declared.Offered.the-variants.{Refused, Ticket}
-use Rattle.offer.specs.declared.OfferMade.{OfferMade}
 use Rattle.state.specs.declared.Rows.{Rows}
 use Rattle.state.specs.declared.State.{State}
+use Rattle.offer.specs.declared.Offered.the-variants.{Refused, Ticket}
+use Rattle.offer.specs.declared.OfferMade.{OfferMade}
 
 -- a row on numbers
 

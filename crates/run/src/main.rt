@@ -8,9 +8,9 @@ use state::Rows;
 use state::State;
 use wire::Place;
 ghost use mathlib.Core.Path.{_≡_};
+ghost use Rattle.io.specs.Counts.{Counts};
 ghost use Rattle.dispatch.specs.Steps.{tickIn};
 ghost use Rattle.offer.specs.Steps.{offerMade};
-ghost use Rattle.io.specs.Counts.{Counts};
 
 fn main() {
     let mut table = [0u8; 257];

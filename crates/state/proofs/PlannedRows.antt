@@ -6,19 +6,19 @@ use lib.Dec.{lit<}
 use lib.ListN.{List·getD-eq-default, List·getD-map, getD, length, length-map}
 use native.Mathlib.Nat.{add-suc, add-zero, suc-add, zero-add}
 use native.Mathlib.Omega.{arith}
-use Rattle.state.specs.declared.Rows.{Rows}
-use Rattle.state.specs.Meaning.{Laid, Stored, entry, freshAt, rowAt, rowsFrom, stationOf}
 use Rattle.rules.specs.Bound.{PlannedRow, plan, planned, promotion}
 use Rattle.rules.specs.Lists.{All}
 use Rattle.rules.specs.Rows.{Row}
 use Rattle.rules.specs.Station.{closed, freshSlot, freshStation, hold}
 use Rattle.rules.specs.Tables.{RowNarrow}
-use Rattle.table.specs.Memory.{fill}
-use Rattle.state.specs.Fresh.{freshIn, rowsFor}
-use Rattle.state.proofs.RefineFresh.{fresh-refines}
 use Rattle.rules.proofs.Walks.{all-imp}
+use Rattle.table.specs.Memory.{fill}
 use Rattle.table.proofs.Files.{noRow}
 use Rattle.table.proofs.Places.{column-at}
+use Rattle.state.specs.declared.Rows.{Rows}
+use Rattle.state.specs.Meaning.{Laid, Stored, entry, freshAt, rowAt, rowsFrom, stationOf}
+use Rattle.state.specs.Fresh.{freshIn, rowsFor}
+use Rattle.state.proofs.RefineFresh.{fresh-refines}
 
 -- what stands where there is no row
 abbrev noPlan : PlannedRow
