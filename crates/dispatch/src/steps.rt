@@ -23,7 +23,9 @@ pub fn closing_of(rows: Rows, s: State, done: bool) -> Closing
         if done {
             return Closing::HardDone(last);
         }
-        if s.run[last] < rows.c[last] {
+        let run = s.run;
+        let c = rows.c;
+        if run[last] < c[last] {
             return Closing::Nothing;
         }
         return Closing::HardSpent(last);
@@ -52,13 +54,16 @@ pub fn close(s: State, closing: Closing) -> State
     }
 }
 
+// The array is taken out to be changed, here as in ran_row: a struct that is indexed by a variable can't stay in registers.
 fn shut_row(s: State, i: usize) -> State
     ensures { λ r. ⌜ r ≡ shutRow s i ⌝ }
 {
     let mut r = s;
     if i < 16 {
+        let mut run = s.run;
+        run[i] = 0;
+        r.run = run;
         r.open = s.open & !sets::one(i);
-        r.run[i] = 0;
     }
     r
 }
@@ -171,8 +176,10 @@ fn ran_row(s: State, i: usize) -> State
 {
     let mut r = s;
     if i < 16 {
-        let x = s.run[i];
-        r.run[i] = bump(x);
+        let mut run = s.run;
+        let x = run[i];
+        run[i] = bump(x);
+        r.run = run;
         r.last = i;
     }
     r

@@ -10,14 +10,14 @@ returns c = rw (lt-ltb _ _ (c .before .if1 .taken), c .if2 .taken)
 mul-if3 : tie.Need-mul-if3
 mul-if3 c = search needs
 
-element-copy-out-if3 : tie.Need-element-copy-out-if3
-element-copy-out-if3 c = search needs
+array-read-if3 : tie.Need-array-read-if3
+array-read-if3 c = search needs
 
 mul-if3-2 : tie.Need-mul-if3-2
 mul-if3-2 c = search needs
 
-element-copy-out-if3-2 : tie.Need-element-copy-out-if3-2
-element-copy-out-if3-2 c = search needs
+array-read-if3-2 : tie.Need-array-read-if3-2
+array-read-if3-2 c = search needs
 
 returns-2 : tie.Need-returns-2
 returns-2 c = let b = c .before .before .before in rw (lt-ltb _ _ (b .before .if1 .taken), b .if2 .left, lt-ltb _ _ (c .if3 .taken))
@@ -25,8 +25,8 @@ returns-2 c = let b = c .before .before .before in rw (lt-ltb _ _ (b .before .if
 returns-3 : tie.Need-returns-3
 returns-3 c = let b = c .before .before .before in rw (lt-ltb _ _ (b .before .if1 .taken), b .if2 .left, le-ltb _ _ (c .if3 .left))
 
-element-copy-out-t20 : tie.Need-element-copy-out-t20
-element-copy-out-t20 c = search needs
+element-copy-out-t22 : tie.Need-element-copy-out-t22
+element-copy-out-t22 c = search needs
 
 returns-4 : tie.Need-returns-4
 returns-4 c = let b = c .before .before in rw (le-ltb _ _ (b .before .if1 .left), eq-eqb _ _ (b .if4 .taken), c .before .if5 .taken)
@@ -40,8 +40,8 @@ element-copy-out-if6-2 c = search needs
 returns-5 : tie.Need-returns-5
 returns-5 c = let b = c .before .before .before in rw (le-ltb _ _ (b .before .before .if1 .left), eq-eqb _ _ (b .before .if4 .taken), b .if5 .left, lt-ltb _ _ (c .if6 .taken))
 
-element-copy-out-t29 : tie.Need-element-copy-out-t29
-element-copy-out-t29 c = search needs
+element-copy-out-t31 : tie.Need-element-copy-out-t31
+element-copy-out-t31 c = search needs
 
 returns-6 : tie.Need-returns-6
 returns-6 c = let b = c .before .before .before .before in rw (le-ltb _ _ (b .before .before .if1 .left), eq-eqb _ _ (b .before .if4 .taken), b .if5 .left, le-ltb _ _ (c .before .if6 .left))
@@ -55,16 +55,16 @@ closing-of-spec =
     (tie.spec
     returns
     mul-if3
-    element-copy-out-if3
+    array-read-if3
     mul-if3-2
-    element-copy-out-if3-2
+    array-read-if3-2
     returns-2
     returns-3
-    element-copy-out-t20
+    element-copy-out-t22
     returns-4
     element-copy-out-if6
     element-copy-out-if6-2
     returns-5
-    element-copy-out-t29
+    element-copy-out-t31
     returns-6
     returns-7)

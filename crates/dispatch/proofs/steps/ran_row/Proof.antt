@@ -7,17 +7,17 @@ use Rattle.dispatch.proofs.steps.ran_row.Tie as tie
 mul-x : tie.Need-mul-x
 mul-x c = search needs
 
-element-copy-out-x : tie.Need-element-copy-out-x
-element-copy-out-x c = search needs
+array-read-x : tie.Need-array-read-x
+array-read-x c = search needs
 
 bump-requires : tie.Need-bump-requires
 bump-requires c κs = search needs
 
-mul-r : tie.Need-mul-r
-mul-r c = search needs
+mul-run : tie.Need-mul-run
+mul-run c = search needs
 
-element-write-r : tie.Need-element-write-r
-element-write-r c = search needs
+array-write-run : tie.Need-array-write-run
+array-write-run c = search needs
 
 returns : tie.Need-returns
 returns c = rw (lt-ltb _ _ (c .before .before .if1 .taken)) (rw (c .bump .ensures))
@@ -27,5 +27,4 @@ returns-2 c = rw (le-ltb _ _ (c .if1 .left))
 
 pub ran-row-spec : {M : Type 1} → statement M
 ran-row-spec =
-    tie.close
-    (tie.spec mul-x element-copy-out-x bump-requires mul-r element-write-r returns returns-2)
+    tie.close (tie.spec mul-x array-read-x bump-requires mul-run array-write-run returns returns-2)
