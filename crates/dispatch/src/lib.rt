@@ -3,7 +3,6 @@ mod sets; // sets.rt: sets of rows, and the loops over sixteen rows
 mod steps; // steps.rt: close, release, choose, run
 
 ghost use mathlib.Core.Path.{_≡_};
-ghost use mathlib.Core.Bool.{Bool};
 ghost use Rattle.dispatch.specs.Answers.{numberOf};
 ghost use Rattle.dispatch.specs.Steps.{tickIn};
 use state::Rows;

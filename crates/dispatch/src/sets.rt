@@ -1,7 +1,7 @@
 // Sets of rows as numbers, bit k for the row at k, and the loops over sixteen rows.
 ghost use mathlib.Core.Path.{_≡_};
-ghost use mathlib.Core.Bool.{Bool, cond};
-ghost use Prim.Native.Nat.{ℕ, _+_, _/_, _^_, _<_};
+ghost use mathlib.Core.Bool.{cond};
+ghost use Prim.Native.Nat.{_+_, _/_, _^_, _<_};
 ghost use Rattle.state.specs.Sets.{least};
 ghost use Rattle.dispatch.specs.Loops.{agedAt, foldRows, lowAt, marked, noBest, better, rowsThat, upto};
 

@@ -1,7 +1,5 @@
 // The steps of a tick: 1 close, 2 release, 3 choose, 4 run and advance.
 ghost use mathlib.Core.Path.{_≡_};
-ghost use mathlib.Core.Bool.{Bool};
-ghost use Prim.Native.Nat.{ℕ, _<_};
 ghost use Rattle.dispatch.specs.Steps.{advanced, bumped, chosenIn, closedBy, closingIn, ranFirst, ranIn, ranNone, ranRow, releasedBy, shifted, shutRow, popped, promotedRows, steppedIn};
 use crate::Answer;
 use crate::Band;

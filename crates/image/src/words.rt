@@ -1,5 +1,4 @@
 // Little-endian numbers in the block, and whole arrays of them: put at a place.
-ghost use mathlib.Core.Path.{_≡_};
 ghost use Prim.Native.Nat.{_+_, _≤_};
 ghost use lib.ListN.{length};
 ghost use Rattle.block.specs.Words.{two, four, joined, one, Put};

@@ -10,15 +10,15 @@ use Rattle.state.specs.declared.Rows.{Rows}
 use Rattle.state.specs.declared.State.{State}
 use Rattle.state.specs.Sets.{known}
 
--- of a table and a plan in memory
+-- the rows of a table and its plan in memory
 abbrev pub plannedRows : Table → Plan → Rows
 plannedRows tb p = record { n = tb .n; c = tb .c; d = tb .d; t = tb .t; u = p .u; rank = tb .rank }
 
--- of a plan of the rules
+-- the rows of a plan of the rules
 abbrev pub rowsFor : List PlannedRow → Rows
 rowsFor ps = plannedRows (tableOf (map (λ p. p .row) ps)) (planOf ps)
 
--- every row rested, the clock at 0, nobody ran
+-- the state: every row rested, the clock at 0, nobody ran
 unfoldable pub freshIn : ℕ → State
 freshIn n = record {
   clock = 0;

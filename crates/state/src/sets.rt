@@ -1,6 +1,5 @@
 // Sets of rows as numbers, bit k for the row at k; and the ticks since a stamp, by wrapping subtraction.
 ghost use mathlib.Core.Path.{_≡_};
-ghost use mathlib.Core.Bool.{Bool};
 ghost use Prim.Native.Nat.{_<_};
 ghost use Rattle.rules.specs.Tick.{bit};
 ghost use Rattle.state.specs.Meaning.{wrapped};

@@ -1,4 +1,4 @@
--- `dispatch::fresh::fresh_state` meets its contract. It is the record that the definition is. Assumes nothing.
+-- `state::fresh::fresh_state` meets its contract. It is the record that the definition is. Assumes nothing.
 use Rattle.state.specs.Fresh.{freshIn}
 use borrow.Author.Needs.{needs}
 use Rattle.state.proofs.fresh.fresh_state.Statement.{statement}

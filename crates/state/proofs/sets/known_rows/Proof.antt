@@ -1,4 +1,4 @@
--- `dispatch::sets::known_rows` meets its contract. The shift keeps sixteen bits; from 16 on it is by 0. Assumes nothing.
+-- `state::sets::known_rows` meets its contract. The shift keeps sixteen bits; from 16 on it is by 0. Assumes nothing.
 use Prim.Native.Nat.{_-_}
 use mathlib.Core.Path.{_≡_}
 use Rattle.state.proofs.Bits.{known-lt}
