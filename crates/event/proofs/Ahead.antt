@@ -10,10 +10,10 @@ use lib.ListN.{length, drop, length-drop}
 use borrow.Author.Tests.{ltb-false}
 use Rattle.rules.specs.Lists.{unless}
 use Rattle.rules.specs.Refusals.{cut, unknown-flag, wrong-length}
-use Rattle.rules.specs.Fields.{byte, header, toEnd, valueFault, word}
+use Rattle.rules.specs.Fields.{BadField, byte, header, toEnd, valueFault, word}
 use Rattle.rules.specs.Calls.{otherFlag, tick-call, offer-call}
 use Rattle.rules.specs.Events.{Event, bad-event, event, no-more, offerEvent, offerTag, readEvent, tickEvent, tickTag}
-use Rattle.event.specs.Answers.{eventOf, refusedField}
+use Rattle.event.specs.Answers.{eventOf}
 use Rattle.event.specs.declared.EventRead.{EventRead}
 
 -- a call's field has bytes, at most n
@@ -21,6 +21,10 @@ abbrev Sized : ℕ → Event → Type 0
 Sized n (event call size) = (1 ≤ size) × (size ≤ n)
 Sized n no-more = Unit {0}
 Sized n (bad-event why size) = Unit {0}
+
+-- a field that fails a check, as an event
+abbrev refusedField : BadField → Event
+refusedField b = bad-event (b .why) (b .size)
 
 value-sized : (s : List ℕ) (n : ℕ) (e : Event) (right short : Bool) → ltb (length s) n ≡ short → (n ≤ length s → Sized (length s) e)
     → Sized (length s) (unless (cond (not right) (header wrong-length) (cond short (toEnd cut s) none)) refusedField e)

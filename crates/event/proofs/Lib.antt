@@ -1,2 +1,3 @@
 pub mod Ahead
+pub mod Found
 pub mod OneResult

@@ -1,7 +1,6 @@
 -- What each answer of the code says in document 01's words: the number and the values of every case. Assumes nothing.
 use Prim.Native.Nat.{ℕ, _+_}
 use Rattle.rules.specs.Refusals.{number}
-use Rattle.rules.specs.Fields.{BadField}
 use Rattle.rules.specs.Calls.{tick-call, offer-call, doneFlag, softFlag}
 use Rattle.rules.specs.Events.{Event, event, no-more, bad-event}
 use Rattle.event.specs.declared.EventRead.{EventRead}
@@ -18,7 +17,3 @@ abbrev pub placeAfter : ℕ → Event → ℕ
 placeAfter at (event call size) = at + size
 placeAfter at no-more = at
 placeAfter at (bad-event why size) = at
-
--- a field that fails a check, as an event
-abbrev pub refusedField : BadField → Event
-refusedField b = bad-event (b .why) (b .size)

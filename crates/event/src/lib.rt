@@ -7,15 +7,16 @@ pub use reader::event_at;
 pub use reader::next;
 pub use reader::reader_at;
 ghost use mathlib.Core.Path.{_≡_};
-ghost use mathlib.Core.Bool.{false};
-ghost use mathlib.Core.Option.{some};
 ghost use Prim.Native.Nat.{_+_, _^_, _<_, _≤_};
 ghost use lib.ListN.{length, drop};
-ghost use Rattle.rules.specs.Lists.{unless};
-ghost use Rattle.rules.specs.Refusals.{cut};
-ghost use Rattle.rules.specs.Fields.{valueFault};
-ghost use Rattle.rules.specs.Events.{bad-event, readEvent, tickEvent, offerEvent};
-ghost use Rattle.event.specs.Answers.{eventOf, refusedField, placeAfter};
+ghost use Rattle.rules.specs.Events.{eventLength, readEvent, tickEvent, offerEvent};
+ghost use Rattle.wire.specs.Field.{lengthOf};
+ghost use Rattle.event.specs.Answers.{eventOf, placeAfter};
+use wire::FieldCheck;
+use wire::ValueLength;
+
+const TICK_TAG: u8 = 0x21;
+const OFFER_TAG: u8 = 0x22;
 
 // What stands at a place: a tick or an offer, with the place after its field; the end; or a refusal's number, and the part of the
 // events that is shown.
@@ -80,83 +81,65 @@ fn first_event(s: &[u8], at: usize) -> EventRead
     requires { ⌜ (1 ≤ length (now s)) × (at + length (now s) < 2 ^ 64) ⌝ }
     ensures { λ r. ⌜ r ≡ eventOf at (readEvent (now (s .entry))) ⌝ }
 {
-    if s.len() < 3 {
-        return cut_field(s, at);
-    }
-    let tag = s[0];
-    if tag == 0x21 {
-        tick_event(s, at)
-    } else if tag == 0x22 {
-        offer_event(s, at)
-    } else {
-        EventRead::Refused {
-            number: 2,
+    let tag = wire::tag_of(s);
+    match wire::check_field(s, value_length(tag), false) {
+        FieldCheck::Bad { number, size } => EventRead::Refused {
+            number,
             from: at,
-            size: 3,
+            size,
+        },
+        FieldCheck::Whole { size } => {
+            if tag == TICK_TAG {
+                tick_event(s, at, size)
+            } else {
+                offer_event(s, at, size)
+            }
         }
     }
 }
 
-// A field with fewer than 3 bytes, or with its value cut: 1, which shows all from its start to the end.
-fn cut_field(s: &[u8], at: usize) -> EventRead
-    ensures { λ r. ⌜ r ≡ eventOf at (bad-event cut (length (now (s .entry)))) ⌝ }
+// How long the value of an event tag is.
+fn value_length(tag: u8) -> ValueLength
+    ensures { λ r. ⌜ lengthOf r ≡ eventLength tag ⌝ }
 {
-    EventRead::Refused {
-        number: 1,
-        from: at,
-        size: s.len(),
+    if tag == TICK_TAG {
+        ValueLength::Known(3)
+    } else if tag == OFFER_TAG {
+        ValueLength::Known(4)
+    } else {
+        ValueLength::Unknown
     }
 }
 
-// A field with a tick's tag.
-fn tick_event(s: &[u8], at: usize) -> EventRead
-    requires { ⌜ (3 ≤ length (now s)) × (at + length (now s) < 2 ^ 64) ⌝ }
-    ensures { λ r. ⌜ r ≡ eventOf at (unless (valueFault (some 3) false (now (s .entry))) refusedField (tickEvent (now (s .entry)))) ⌝ }
+// A whole field with a tick's tag: 20, which shows all of it.
+fn tick_event(s: &[u8], at: usize, size: usize) -> EventRead
+    requires { ⌜ (6 ≤ length (now s)) × (size ≡ 6) × (at + length (now s) < 2 ^ 64) ⌝ }
+    ensures { λ r. ⌜ r ≡ eventOf at (tickEvent (now (s .entry))) ⌝ }
 {
-    if wire::get_u16(s, 1) != 3 {
-        return EventRead::Refused {
-            number: 3,
-            from: at,
-            size: 3,
-        };
-    }
-    if s.len() < 6 {
-        return cut_field(s, at);
-    }
     let flags = s[5];
     if 4 <= flags {
         return EventRead::Refused {
             number: 20,
             from: at,
-            size: 6,
+            size,
         };
     }
     EventRead::Tick {
         set: wire::get_u16(s, 3),
         done: flags % 2 == 1,
         soft: flags / 2 % 2 == 1,
-        next: at + 6,
+        next: at + size,
     }
 }
 
-// A field with an offer's tag.
-fn offer_event(s: &[u8], at: usize) -> EventRead
-    requires { ⌜ (3 ≤ length (now s)) × (at + length (now s) < 2 ^ 64) ⌝ }
-    ensures { λ r. ⌜ r ≡ eventOf at (unless (valueFault (some 4) false (now (s .entry))) refusedField (offerEvent (now (s .entry)))) ⌝ }
+// A whole field with an offer's tag.
+fn offer_event(s: &[u8], at: usize, size: usize) -> EventRead
+    requires { ⌜ (7 ≤ length (now s)) × (size ≡ 7) × (at + length (now s) < 2 ^ 64) ⌝ }
+    ensures { λ r. ⌜ r ≡ eventOf at (offerEvent (now (s .entry))) ⌝ }
 {
-    if wire::get_u16(s, 1) != 4 {
-        return EventRead::Refused {
-            number: 3,
-            from: at,
-            size: 3,
-        };
-    }
-    if s.len() < 7 {
-        return cut_field(s, at);
-    }
     EventRead::Offer {
         budget: wire::get_u16(s, 3),
         deadline: wire::get_u16(s, 5),
-        next: at + 7,
+        next: at + size,
     }
 }

@@ -1,6 +1,11 @@
-// Lent byte slices: numbers in them, big-endian, read and put at a place; and the part of a file that a refusal shows.
+// Lent byte slices: numbers in them, big-endian, read and put at a place; the check of a field; and the part of a file that a refusal shows.
+mod field; // field.rt: tag, length and value, and what is wrong with them
 mod view; // view.rt: the part that a refusal shows
 
+pub use field::FieldCheck;
+pub use field::ValueLength;
+pub use field::check_field;
+pub use field::tag_of;
 pub use view::Place;
 pub use view::shown;
 ghost use mathlib.Core.Path.{_≡_};
