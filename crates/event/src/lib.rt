@@ -16,6 +16,7 @@ use wire::FieldCheck;
 use wire::ValueLength;
 
 const TICK_TAG: u8 = 0x21;
+
 const OFFER_TAG: u8 = 0x22;
 
 // What stands at a place: a tick or an offer, with the place after its field; the end; or a refusal's number, and the part of the

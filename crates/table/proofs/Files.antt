@@ -1,12 +1,12 @@
 -- A file that is scanned whole: its rows stand one after another, and the table in memory that holds them has just these rows. Assumes nothing.
-use Prim.Native.Nat.{ℕ, zero, suc, _+_, _-_, _*_, _≤_, _<_}
-use mathlib.Core.Path.{_≡_, refl, sym, ap, _∙_}
+use Prim.Native.Nat.{ℕ, zero, suc, _+_, _-_, _≤_, _<_}
+use mathlib.Core.Path.{_≡_, refl, sym, ap, subst, _∙_}
 use mathlib.Core.Bool.{Bool, true, false, cond, _&&_}
 use mathlib.Core.List.{List, [], _∷_}
 use mathlib.Core.Option.{Option, none, some}
 use native.Mathlib.Omega.{arith}
 use lib.Dec.{eqb}
-use lib.ListN.{length, getD, drop, length-drop}
+use lib.ListN.{length, getD, drop}
 use lib.Seq.{drop-drop}
 use borrow.Author.Tests.{eqb-true}
 use Rattle.rules.specs.Lists.{unless}
@@ -14,13 +14,16 @@ use Rattle.rules.specs.Refusals.{after-end}
 use Rattle.rules.specs.Rows.{Row}
 use Rattle.rules.specs.Bound.{Plan, planned, unplanned, plan}
 use Rattle.rules.specs.Fields.{BadField, fieldFault}
-use Rattle.rules.specs.File.{isRow, tableLength, rowOf, Scan, whole, broken, withFirst, ends, scan, planScan, readScan, read}
-use Rattle.table.specs.Memory.{indexed, rowAt, rowsOf, tableOf, rowsIn}
-use Rattle.table.specs.Answers.{fieldUnless, fieldOf, scannedOf, refusedRead, readingOf}
-use Rattle.table.specs.declared.scan.Field.{Field}
+use Rattle.rules.specs.File.{isRow, tableLength, rowOf, Scan, whole, broken, withFirst, ends, scan, readScan, read}
+use Rattle.wire.specs.Field.{fieldSize}
+use Rattle.table.specs.Memory.{indexed, rowAt, rowsOf, tableOf}
+use Rattle.table.specs.Walk.{RowFields, rowsIn, startOf}
+use Rattle.table.specs.Answers.{fieldUnless, nextField, scannedOf, fileRefusal, refusedRead, readingOf, scanRow, planRead, fileRead}
+use Rattle.table.specs.declared.scan.TableField.{TableField}
 use Rattle.table.specs.declared.scan.Scanned.{Scanned}
 use Rattle.table.proofs.Places.{column-at}
-use Rattle.table.proofs.Fields.{row-facts}
+use Rattle.table.proofs.Walked.{fields-shift, start-shift}
+use Rattle.table.proofs.Fields.{row-field}
 use Rattle.table.proofs.Verdicts.{plan-keeps}
 
 -- the two ways in which a field leaves a scan whole: a row, and what follows it is whole; or the end field, and nothing follows it
@@ -30,7 +33,7 @@ ends-whole at s rs false h e at-end = absurd (let z : _≡_ {A = ℕ} 0 1 = cc i
 
 field-whole : {A : Type 0} (fault : Option BadField) (b : Bool) (at : ℕ) (s : List ℕ) (x : Scan) (rs : List Row)
     → unless fault (λ y. broken (y .why) at (y .size)) (cond b (withFirst (rowOf s) x) (ends at s)) ≡ whole rs
-    → (fieldUnless fault (cond b Field.Row Field.End) ≡ Field.Row → withFirst (rowOf s) x ≡ whole rs → A)
+    → (fieldUnless fault (cond b (TableField.Row (fieldSize s)) TableField.End) ≡ TableField.Row (fieldSize s) → withFirst (rowOf s) x ≡ whole rs → A)
     → (rs ≡ [] → length s ≡ 3 → A)
     → A
 field-whole none true at s x rs e at-row at-end = at-row refl e
@@ -48,53 +51,53 @@ indexed-shift g h from (suc n) e = ap (λ (a : _). a ∷ indexed h (suc from) n)
 -- what a whole scan says of the rest of a file that it starts from
 record Rest (more : ℕ) (s : List ℕ) (rs : List Row) : Type 0 where
   few : length rs ≤ more
-  long : 10 * length rs + 3 ≡ length s
+  fields : RowFields s (length rs)
   rows : rs ≡ rowsIn s (length rs)
 
 rest-end : (more : ℕ) (s : List ℕ) (rs : List Row) → rs ≡ [] → length s ≡ 3 → Rest more s rs
-rest-end more s rs e h = rw e (record { few = omega arith; long = omega arith; rows = refl })
+rest-end more s rs e h = rw e (record { few = omega arith; fields = λ k l. absurd (omega arith); rows = refl })
 
-rest-row : (more : ℕ) (s : List ℕ) (rs qs : List Row) → 10 ≤ length s → rs ≡ rowOf s ∷ qs → Rest more (drop 10 s) qs → Rest (suc more) s rs
-rest-row more s rs qs h e r =
-    let cut : length (drop 10 s) ≡ length s - 10 = length-drop 10 s in
+rest-row : (more : ℕ) (s : List ℕ) (rs qs : List Row) → fieldSize s ≡ 10 → 10 ≤ length s → rs ≡ rowOf s ∷ qs → Rest more (drop 10 s) qs → Rest (suc more) s rs
+rest-row more s rs qs ten fits e r =
+    let rest : Rest more (drop (fieldSize s) s) qs = subst (λ (k : ℕ). Rest more (drop k s) qs) (sym ten) r in
     rw e
     (record {
-      few = omega (arith, r .few);
-      long = omega (arith, r .long);
+      few = omega (arith, rest .few);
+      fields = fields-shift s (length qs) ten fits (rest .fields);
       rows =
           ap (λ (l : List Row). rowOf s ∷ l)
-          (r .rows
-          ∙ indexed-shift (λ i. rowOf (drop (10 * i) s)) (λ i. rowOf (drop (10 * i) (drop 10 s))) 0 (length qs)
-          (λ i. let next : 10 + 10 * i ≡ 10 * suc i = omega arith in ap rowOf (drop-drop (10 * i) 10 s ∙ ap (λ (k : ℕ). drop k s) next)));
+          (rest .rows
+          ∙ indexed-shift (λ i. rowOf (drop (startOf s i) s)) (λ i. rowOf (drop (startOf (drop (fieldSize s) s) i) (drop (fieldSize s) s))) 0 (length qs)
+          (λ i. ap rowOf (drop-drop (startOf (drop (fieldSize s) s) i) (fieldSize s) s ∙ ap (λ (k : ℕ). drop k s) (sym (start-shift s i)))));
     })
 
 whole-rest : (more at : ℕ) (s : List ℕ) (rs : List Row) → scan more at s ≡ whole rs → Rest more s rs
-unfolding scan fieldOf
+unfolding scan nextField
 whole-rest zero at s rs e =
     field-whole (fieldFault tableLength (isRow s && true) s) (isRow s) at s (whole []) rs e
-    (λ row first. absurd (let z : _≡_ {A = ℕ} 0 1 = cc (row-facts true s row .0) in omega arith))
+    (λ row first. absurd (let z : _≡_ {A = ℕ} 0 1 = cc (row-field true s row .more) in omega arith))
     (rest-end zero s rs)
 whole-rest (suc more) at s rs e =
     field-whole (fieldFault tableLength (isRow s && eqb (suc more) 0) s) (isRow s) at s (scan more (at + 10) (drop 10 s)) rs e
-    (λ row first. first-whole (rowOf s) (scan more (at + 10) (drop 10 s)) rs first (λ qs next same. rest-row more s rs qs (row-facts (eqb (suc more) 0) s row .1) same (whole-rest more (at + 10) (drop 10 s) qs next)))
+    (λ row first. let f = row-field (eqb (suc more) 0) s row in first-whole (rowOf s) (scan more (at + 10) (drop 10 s)) rs first (λ qs next same. rest-row more s rs qs (f .ten) (f .fits) same (whole-rest more (at + 10) (drop 10 s) qs next)))
     (rest-end (suc more) s rs)
 
-pub scan-whole : (s : List ℕ) (n : ℕ) → scannedOf (scan 16 0 s) ≡ Scanned.Whole n → (n ≤ 16) × (10 * n + 3 ≡ length s) × (scan 16 0 s ≡ whole (rowsIn s n))
+pub scan-whole : (s : List ℕ) (n : ℕ) → scannedOf (scan 16 0 s) ≡ Scanned.Whole n → (n ≤ 16) × RowFields s n × (scan 16 0 s ≡ whole (rowsIn s n))
 scan-whole s n e = go (scan 16 0 s) refl e
   where
-    go : (x : Scan) → scan 16 0 s ≡ x → scannedOf x ≡ Scanned.Whole n → (n ≤ 16) × (10 * n + 3 ≡ length s) × (scan 16 0 s ≡ whole (rowsIn s n))
+    go : (x : Scan) → scan 16 0 s ≡ x → scannedOf x ≡ Scanned.Whole n → (n ≤ 16) × RowFields s n × (scan 16 0 s ≡ whole (rowsIn s n))
     go (whole rs) i e =
         let rest = whole-rest 16 0 s rs i in
         let count : length rs ≡ n = cc in
-        (omega (arith, rest .few), omega (arith, rest .long), i ∙ ap whole (rest .rows ∙ ap (rowsIn s) count))
+        (omega (arith, rest .few), subst (RowFields s) count (rest .fields), i ∙ ap whole (rest .rows ∙ ap (rowsIn s) count))
     go (broken why from size) i e = absurd (let z : _≡_ {A = ℕ} 0 1 = cc in omega arith)
 
-pub scan-broken : (x : Scan) {k from size : ℕ} → scannedOf x ≡ Scanned.Broken k from size → refusedRead k from size ≡ readingOf (readScan x)
+pub scan-broken : (x : Scan) {k from size : ℕ} → scannedOf x ≡ Scanned.Broken k from size → refusedRead (fileRefusal k from size) ≡ readingOf (scanRow x) (readScan x)
 scan-broken (whole rs) e = absurd (let z : _≡_ {A = ℕ} 0 1 = cc in omega arith)
 scan-broken (broken why from size) e =
     ap
     (λ (x : Scanned).
-    elim x [ Scanned.Whole n ↦ refusedRead 0 0 0 | Scanned.Broken k from size ↦ refusedRead k from size ])
+    elim x [ Scanned.Whole n ↦ refusedRead (fileRefusal 0 0 0) | Scanned.Broken k from size ↦ refusedRead (fileRefusal k from size) ])
     (sym e)
 
 -- a list by index is the list
@@ -126,14 +129,14 @@ table-rows rs few = indexed-getD (rowAt (tableOf rs)) noRow 0 rs (λ i h. same i
         })
 
 -- what is read has at most sixteen rows
-pub read-few : (s : List ℕ) → readingOf (read s) .table .n ≤ 16
-unfolding read
+pub read-few : (s : List ℕ) → fileRead s .table .n ≤ 16
+unfolding read fileRead
 read-few s = scanned (scan 16 0 s) refl
   where
-    planning : (rs : List Row) → length rs ≤ 16 → (p : Plan) → plan rs ≡ p → readingOf (planScan p) .table .n ≤ 16
+    planning : (rs : List Row) → length rs ≤ 16 → (p : Plan) → plan rs ≡ p → planRead p .table .n ≤ 16
     planning rs few (planned ps) i = omega (arith, few, ap length (plan-keeps rs ps i))
     planning rs few (unplanned x) i = omega arith
 
-    scanned : (x : Scan) → scan 16 0 s ≡ x → readingOf (readScan x) .table .n ≤ 16
+    scanned : (x : Scan) → scan 16 0 s ≡ x → readingOf (scanRow x) (readScan x) .table .n ≤ 16
     scanned (whole rs) i = planning rs (whole-rest 16 0 s rs i .few) (plan rs) refl
     scanned (broken why from size) i = omega arith

@@ -1,4 +1,5 @@
 pub mod Places
+pub mod Walked
 pub mod Rows
 pub mod Fields
 pub mod Ranks

@@ -13,7 +13,8 @@ use Rattle.rules.specs.Fields.{word}
 use Rattle.rules.specs.Refusals.{small-output}
 use Rattle.rules.specs.File.{rowOf, rowBytes, fileBytes, written, unwritten, put}
 use Rattle.wire.proofs.Stores.{sets-front}
-use Rattle.table.specs.Memory.{indexed, fill, rowAt, rowsOf, tableOf, rowsIn, rowsBytes}
+use Rattle.table.specs.Memory.{indexed, fill, rowAt, rowsOf, tableOf, rowsBytes}
+use Rattle.table.specs.Walk.{rowsIn, startOf}
 use Rattle.table.specs.declared.Table.{Table}
 use Rattle.table.proofs.Places.{length-indexed, indexed-next, column-next}
 
@@ -27,9 +28,9 @@ indexed-more : {A : Type 0} (g : ℕ → A) (i : ℕ) → indexed g 0 (i + 1) �
 indexed-more g i = indexed-next g 0 i ∙ ap (λ (k : ℕ). indexed g 0 i ++ (g k ∷ [])) (zero-add i)
 
 -- a column of the rows of a file
-pub column-more : (h : Row → ℕ) (s : List ℕ) (i x : ℕ) → i < 16 → x ≡ h (rowOf (drop (10 * i) s)) → set (fill 16 (map h (rowsIn s i))) i x ≡ fill 16 (map h (rowsIn s (i + 1)))
+pub column-more : (h : Row → ℕ) (s : List ℕ) (i x : ℕ) → i < 16 → x ≡ h (rowOf (drop (startOf s i) s)) → set (fill 16 (map h (rowsIn s i))) i x ≡ fill 16 (map h (rowsIn s (i + 1)))
 column-more h s i x few v =
-    let g : ℕ → Row = λ k. rowOf (drop (10 * k) s) in
+    let g : ℕ → Row = λ k. rowOf (drop (startOf s k) s) in
     column-next h (rowsIn s i) (g i) i x (length-indexed g 0 i) few v ∙ ap (λ (l : List Row). fill 16 (map h l)) (sym (indexed-more g i))
 
 -- the four columns, all filled, are the table
@@ -40,16 +41,19 @@ pub columns-table : (s : List ℕ) (i n : ℕ) (c d t rank : List ℕ) → i ≡
     → rank ≡ fill 16 (map (λ r. r .rank) (rowsIn s i))
     → _≡_ {A = Table} (record { n = n; c = c; d = d; t = t; rank = rank }) (tableOf (rowsIn s n))
 columns-table s i n c d t rank e pc pd pt pr =
-    let all : i ≡ length (rowsIn s i) = sym (length-indexed (λ k. rowOf (drop (10 * k) s)) 0 i) in
+    let all : i ≡ length (rowsIn s i) = sym (length-indexed (λ k. rowOf (drop (startOf s k) s)) 0 i) in
     rw (← e) (λ k. record { n = all k; c = pc k; d = pd k; t = pt k; rank = pr k })
 
 rowsBytes-append : (rs ss : List Row) → rowsBytes (rs ++ ss) ≡ rowsBytes rs ++ rowsBytes ss
 rowsBytes-append [] ss = refl
 rowsBytes-append (r ∷ rs) ss = ap (λ (l : List ℕ). rowBytes r ++ l) (rowsBytes-append rs ss) ∙ sym (append-assoc (rowBytes r) (rowsBytes rs) (rowsBytes ss))
 
-pub length-rowsBytes : (rs : List Row) → length (rowsBytes rs) ≡ 10 * length rs
+length-rowsBytes : (rs : List Row) → length (rowsBytes rs) ≡ 10 * length rs
 length-rowsBytes [] = refl
 length-rowsBytes (r ∷ rs) = omega (arith, length-rowsBytes rs)
+
+pub bytes-at : (tb : Table) (i : ℕ) → length (rowsBytes (indexed (rowAt tb) 0 i)) ≡ 10 * i
+bytes-at tb i = length-rowsBytes (indexed (rowAt tb) 0 i) ∙ ap (λ (k : ℕ). 10 * k) (length-indexed (rowAt tb) 0 i)
 
 pub bytes-more : (g : ℕ → Row) (i : ℕ) → rowsBytes (indexed g 0 i) ++ rowBytes (g i) ≡ rowsBytes (indexed g 0 (i + 1))
 bytes-more g i =
@@ -65,8 +69,7 @@ file-bytes (r ∷ rs) = append-assoc (rowBytes r) (rowsBytes rs) (fileBytes []) 
 
 pub length-file : (tb : Table) → length (fileBytes (rowsOf tb)) ≡ 10 * tb .n + 3
 length-file tb =
-    let all = length-indexed (rowAt tb) 0 (tb .n) in
-    ap length (sym (file-bytes (rowsOf tb))) ∙ length-append (rowsBytes (rowsOf tb)) (fileBytes []) ∙ ap (λ (k : ℕ). k + 3) (length-rowsBytes (rowsOf tb) ∙ ap (λ (k : ℕ). 10 * k) all)
+    ap length (sym (file-bytes (rowsOf tb))) ∙ length-append (rowsBytes (rowsOf tb)) (fileBytes []) ∙ ap (λ (k : ℕ). k + 3) (bytes-at tb (tb .n))
 
 -- a file in an output that is too small, and in one that is not
 module _ (bytes out : List ℕ) (size : ℕ) (long : length bytes ≡ size) where

@@ -12,14 +12,16 @@ use Rattle.rules.specs.Lists.{unless, orElse}
 use Rattle.rules.specs.Refusals.{Refusal, number, row-17, Refused, refusal, atRow}
 use Rattle.rules.specs.Rows.{Row, rowFault, rowsFault, tableFault}
 use Rattle.rules.specs.Bound.{Bound, bound, none-to-D, response, PlannedRow, Plan, planned, unplanned, withRow, planRows, plan}
-use Rattle.rules.specs.File.{planScan, fileBytes, unwritten, put, writePlan, write}
+use Rattle.rules.specs.File.{fileBytes, unwritten, put, writePlan, write}
 use Rattle.table.specs.Memory.{tableOf, planOf}
-use Rattle.table.specs.Answers.{checkedOf, refusedPlanning, planningOf, planOrRefuse, refusedRead, readingOf, writtenOf, heldOf}
+use Rattle.table.specs.Walk.{RowFields, startOf}
+use Rattle.table.specs.Answers.{checkedOf, refusedPlanning, planningOf, planOrRefuse, rowRefusal, refusedRead, planRead, writtenOf, outputAfter}
 use Rattle.table.specs.declared.Table.{Table}
 use Rattle.table.specs.declared.TableRead.{TableRead}
 use Rattle.table.specs.declared.Checked.{Checked}
-use Rattle.table.specs.declared.Verdict.{Verdict}
+use Rattle.table.specs.declared.FileVerdict.{FileVerdict}
 use Rattle.table.specs.declared.Written.{Written}
+use Rattle.table.proofs.Walked.{start-tens}
 
 passed-not-failed : {A : Type 0} {k row : ℕ} → Checked.Passed ≡ Checked.Failed k row → A
 passed-not-failed e = absurd (let z : _≡_ {A = ℕ} 0 1 = cc in omega arith)
@@ -107,23 +109,24 @@ module _ (rs : List Row) (p : Plan) (is : plan rs ≡ p) where
       go (planned ps) i e = passed-not-failed e
       go (unplanned x) i e = let same : x .row ≡ row = cc in omega (arith, plan-row rs x i)
 
-  pub failed-read : {k row : ℕ} → planningOf p .verdict ≡ Checked.Failed k row → refusedRead k (10 * row) 10 ≡ readingOf (planScan p)
-  failed-read {k} {row} e = go p e
+  pub failed-read : (s : List ℕ) {k row : ℕ} → RowFields s (suc row) → planningOf p .verdict ≡ Checked.Failed k row → refusedRead (rowRefusal s k row) ≡ planRead p
+  failed-read s {k} {row} fields e = go p e
     where
-      go : (q : Plan) → planningOf q .verdict ≡ Checked.Failed k row → refusedRead k (10 * row) 10 ≡ readingOf (planScan q)
+      go : (q : Plan) → planningOf q .verdict ≡ Checked.Failed k row → refusedRead (rowRefusal s k row) ≡ planRead q
       go (planned ps) e = passed-not-failed e
       go (unplanned x) e =
           let why : k ≡ number (x .why) = cc in
           let at : row ≡ x .row = cc in
-          rw (why, at)
+          let from : startOf s row ≡ 10 * x .row = start-tens s (suc row) fields row (omega arith) ∙ ap (λ (k : ℕ). 10 * k) at in
+          λ i. refusedRead (record { number = why i; row = at i + 1; from = from i; size = fields row (omega arith) .0 i })
 
   pub passed-read : (tb : Table) → tb ≡ tableOf rs → planningOf p .verdict ≡ Checked.Passed
-      → _≡_ {A = TableRead} (record { verdict = Verdict.Accepted; table = tb; plan = planningOf p .plan }) (readingOf (planScan p))
+      → _≡_ {A = TableRead} (record { verdict = FileVerdict.Accepted; table = tb; plan = planningOf p .plan }) (planRead p)
   passed-read tb t e = go p is e
     where
       go : (q : Plan) → plan rs ≡ q → planningOf q .verdict ≡ Checked.Passed
-          → _≡_ {A = TableRead} (record { verdict = Verdict.Accepted; table = tb; plan = planningOf q .plan }) (readingOf (planScan q))
-      go (planned ps) i e = ap (λ (x : Table). record { verdict = Verdict.Accepted; table = x; plan = planOf ps }) (t ∙ ap tableOf (sym (plan-keeps rs ps i)))
+          → _≡_ {A = TableRead} (record { verdict = FileVerdict.Accepted; table = tb; plan = planningOf q .plan }) (planRead q)
+      go (planned ps) i e = ap (λ (x : Table). record { verdict = FileVerdict.Accepted; table = x; plan = planOf ps }) (t ∙ ap tableOf (sym (plan-keeps rs ps i)))
       go (unplanned x) i e = passed-not-failed (sym e)
 
 -- what is written by a plan's verdict
@@ -136,10 +139,10 @@ write-plans rs out = go (ltb 16 (length rs))
     go false = refl
 
 module _ (p : Plan) (bytes out : List ℕ) where
-  pub failed-written : {k row : ℕ} → planningOf p .verdict ≡ Checked.Failed k row → (Written.Refused k ≡ writtenOf (writePlan p bytes out)) × (out ≡ heldOf out (writePlan p bytes out))
+  pub failed-written : {k row : ℕ} → planningOf p .verdict ≡ Checked.Failed k row → (Written.Refused k ≡ writtenOf (writePlan p bytes out)) × (out ≡ outputAfter out (writePlan p bytes out))
   failed-written {k} {row} e = go p e
     where
-      go : (q : Plan) → planningOf q .verdict ≡ Checked.Failed k row → (Written.Refused k ≡ writtenOf (writePlan q bytes out)) × (out ≡ heldOf out (writePlan q bytes out))
+      go : (q : Plan) → planningOf q .verdict ≡ Checked.Failed k row → (Written.Refused k ≡ writtenOf (writePlan q bytes out)) × (out ≡ outputAfter out (writePlan q bytes out))
       go (planned ps) e = passed-not-failed e
       go (unplanned x) e = let why : k ≡ number (x .why) = cc in (ap Written.Refused why, refl)
 

@@ -1,10 +1,10 @@
 -- A table in memory as the rules' rows, and the rules' rows as a table in memory: sixteen places, 0 where there is no row. Assumes nothing.
-use Prim.Native.Nat.{ℕ, zero, suc, _*_, _<_}
+use Prim.Native.Nat.{ℕ, zero, suc, _<_}
 use mathlib.Core.List.{List, [], _∷_, _++_, map}
-use lib.ListN.{length, getD, drop}
+use lib.ListN.{length, getD}
 use Rattle.rules.specs.Rows.{Row}
 use Rattle.rules.specs.Bound.{PlannedRow, promotion}
-use Rattle.rules.specs.File.{rowOf, rowBytes}
+use Rattle.rules.specs.File.{rowBytes}
 use Rattle.rules.specs.Tables.{RowOk}
 use Rattle.table.specs.declared.Table.{Table}
 use Rattle.table.specs.declared.Plan.{Plan}
@@ -52,10 +52,6 @@ planOf ps =
       u = fill 16 (map (λ p. promotion (p .row) (p .R)) ps);
       rounds = fill 16 (map (λ p. p .rounds) ps);
     }
-
--- the first n rows of a file
-abbrev pub rowsIn : List ℕ → ℕ → List Row
-rowsIn s n = indexed (λ i. rowOf (drop (10 * i) s)) 0 n
 
 -- the first n rows have 1 ≤ C ≤ D ≤ T
 abbrev pub Sound : Table → ℕ → Type 0

@@ -1,15 +1,17 @@
 // The hard table of document 01: read from its file, checked, planned, and written to a file again.
-mod bounds;
-mod faults;
-mod scan;
-mod writing;
+mod bounds; // bounds.rt: the response bound of a row, the plan of a table
+mod faults; // faults.rt: the checks 6 to 9
+mod form; // form.rt: what a file looks like
+mod scan; // scan.rt: a file read
+mod writing; // writing.rt: a file written
 
 ghost use mathlib.Core.Path.{_≡_};
 ghost use Prim.Native.Nat.{_≤_};
 ghost use Rattle.rules.specs.Bound.{plan};
-ghost use Rattle.rules.specs.File.{planScan, read, write};
+ghost use Rattle.rules.specs.File.{write};
 ghost use Rattle.table.specs.Memory.{rowsOf, tableOf};
-ghost use Rattle.table.specs.Answers.{planningOf, planOrRefuse, refusedRead, readingOf, writtenOf, heldOf};
+ghost use Rattle.table.specs.Walk.{RowFields};
+ghost use Rattle.table.specs.Answers.{planningOf, planOrRefuse, refusedRead, planRead, fileRead, writtenOf, outputAfter};
 
 // A table in memory: n rows, row 1 at index 0. What read_table gives has 0 at n and above.
 pub struct Table {
@@ -39,21 +41,22 @@ pub struct Planning {
     pub plan: Plan,
 }
 
-// A refused file: the number, and the part of the file that is shown.
-pub struct Refusal {
+// A refused file: the number, the row that it is about, counted from 1 (0: none), and the part of the file that is shown.
+pub struct FileRefusal {
     pub number: u8,
+    pub row: u8,
     pub from: usize,
     pub size: usize,
 }
 
-pub enum Verdict {
+pub enum FileVerdict {
     Accepted,
-    Refused(Refusal),
+    Refused(FileRefusal),
 }
 
 // The answer of reading. A file that is refused has a table and a plan of zeros.
 pub struct TableRead {
-    pub verdict: Verdict,
+    pub verdict: FileVerdict,
     pub table: Table,
     pub plan: Plan,
 }
@@ -66,27 +69,32 @@ pub enum Written {
 
 // The table that a file holds, with its plan, or why it is refused: checks 1 to 10, in document 01's order.
 pub fn read_table(s: &[u8]) -> TableRead
-    ensures { λ r. ⌜ r ≡ readingOf (read (now (s .entry))) ⌝ }
+    ensures { λ r. ⌜ r ≡ fileRead (now (s .entry)) ⌝ }
 {
     match scan::scan_fields(s) {
-        scan::Scanned::Broken { number, from, size } => unread(number, from, size),
-        scan::Scanned::Whole { n } => read_rows(scan::table_at(s, n)),
+        scan::Scanned::Broken { number, from, size } => unread(FileRefusal {
+            number,
+            row: 0,
+            from,
+            size,
+        }),
+        scan::Scanned::Whole { n } => read_rows(s, scan::table_at(s, n)),
     }
 }
 
-// The table and its plan, or why its file is refused: 6 to 10, which show the row's ten bytes.
-fn read_rows(tb: Table) -> TableRead
-    requires { ⌜ (tb .n ≤ 16) × (tb ≡ tableOf (rowsOf tb)) ⌝ }
-    ensures { λ r. ⌜ r ≡ readingOf (planScan (plan (rowsOf tb))) ⌝ }
+// The table of a file that is scanned whole, and its plan; or why the file is refused: 6 to 10.
+fn read_rows(s: &[u8], tb: Table) -> TableRead
+    requires { ⌜ (tb .n ≤ 16) × (tb ≡ tableOf (rowsOf tb)) × RowFields (now s) (tb .n) ⌝ }
+    ensures { λ r. ⌜ r ≡ planRead (plan (rowsOf tb)) ⌝ }
 {
     let planning = plan_table(tb);
     let verdict = planning.verdict;
     match verdict {
-        Checked::Failed { number, row } => unread(number, 10 * row, 10),
+        Checked::Failed { number, row } => unread(scan::row_refusal(s, number, row)),
         Checked::Passed => {
             let plan = planning.plan;
             TableRead {
-                verdict: Verdict::Accepted,
+                verdict: FileVerdict::Accepted,
                 table: tb,
                 plan,
             }
@@ -95,8 +103,8 @@ fn read_rows(tb: Table) -> TableRead
 }
 
 // A refused file's answer.
-fn unread(number: u8, from: usize, size: usize) -> TableRead
-    ensures { λ r. ⌜ r ≡ refusedRead number from size ⌝ }
+fn unread(refusal: FileRefusal) -> TableRead
+    ensures { λ r. ⌜ r ≡ refusedRead refusal ⌝ }
 {
     let zero = [0u16; 16];
     let rank = [0u8; 16];
@@ -113,7 +121,7 @@ fn unread(number: u8, from: usize, size: usize) -> TableRead
         rounds: zero,
     };
     TableRead {
-        verdict: Verdict::Refused(Refusal { number, from, size }),
+        verdict: FileVerdict::Refused(refusal),
         table,
         plan,
     }
@@ -135,7 +143,7 @@ pub fn plan_table(tb: Table) -> Planning
 // Writes a table's file to the front of out: 5 to 10, then 19. A refusal writes nothing, and bytes after the length stay.
 pub fn write_table(tb: Table, out: &mut [u8]) -> Written
     ensures { λ r. ⌜ r ≡ writtenOf (write (rowsOf tb) (now (out .entry))) ⌝ }
-    ensures { λ _. ⌜ now (out .exit) ≡ heldOf (now (out .entry)) (write (rowsOf tb) (now (out .entry))) ⌝ }
+    ensures { λ _. ⌜ now (out .exit) ≡ outputAfter (now (out .entry)) (write (rowsOf tb) (now (out .entry))) ⌝ }
 {
     let planning = plan_table(tb);
     let verdict = planning.verdict;

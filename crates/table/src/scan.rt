@@ -1,18 +1,21 @@
-// The scan of a table file: its fields one after the other, to the end field; and the rows that it holds.
+// The scan of a table file: its fields one after the other, to the end field; the rows that it holds; and the row that a refusal shows.
+use crate::FileRefusal;
 use crate::Table;
+use crate::form;
 ghost use mathlib.Core.Path.{_≡_};
-ghost use mathlib.Core.Bool.{false};
-ghost use mathlib.Core.Option.{some};
-ghost use Prim.Native.Nat.{_*_, _≤_};
-ghost use lib.ListN.{length};
-ghost use Rattle.rules.specs.Fields.{valueFault};
-ghost use Rattle.rules.specs.File.{scan};
-ghost use Rattle.table.specs.Memory.{tableOf, rowsIn};
-ghost use Rattle.table.specs.Answers.{fieldUnless, fieldOf, scannedOf};
+ghost use Prim.Native.Nat.{suc, _+_, _≤_, _<_};
+ghost use lib.ListN.{length, drop};
+ghost use Rattle.rules.specs.File.{rowOf, scan, tableLength};
+ghost use Rattle.wire.specs.Field.{fieldSize, lengthOf};
+ghost use Rattle.table.specs.Memory.{tableOf};
+ghost use Rattle.table.specs.Walk.{RowFields, rowsIn};
+ghost use Rattle.table.specs.Answers.{fileRow, nextField, rowRefusal, scannedOf};
+use wire::FieldCheck;
+use wire::ValueLength;
 
-// The field at the start of a file's rest; of a bad one, the number and how many bytes are shown.
-pub enum Field {
-    Row,
+// The field at the start of a file's rest: a row's, with its size, or the end's; of a bad one, the number and how many bytes are shown.
+pub enum TableField {
+    Row { size: usize },
     End,
     Bad { number: u8, size: usize },
 }
@@ -29,6 +32,14 @@ pub enum Scanned {
     },
 }
 
+// A row as its field has it.
+pub struct FileRow {
+    pub c: u16,
+    pub d: u16,
+    pub t: u16,
+    pub rank: u8,
+}
+
 // The scan of a whole file: checks 1 to 5.
 pub fn scan_fields(s: &[u8]) -> Scanned
     ensures { λ r. ⌜ r ≡ scannedOf (scan 16 0 (now (s .entry))) ⌝ }
@@ -37,22 +48,22 @@ pub fn scan_fields(s: &[u8]) -> Scanned
     let mut n: usize = 0;
     let out = loop {
         match field_of(&s[at..], n == 16) {
-            Field::Row => {
-                at += 10;
+            TableField::Row { size } => {
+                at += size;
                 n += 1;
             }
-            Field::End => {
-                if s.len() - at == 3 {
+            TableField::End => {
+                if s.len() - at == form::END_BYTES {
                     break Scanned::Whole { n };
                 } else {
                     break Scanned::Broken {
                         number: 4,
-                        from: at + 3,
-                        size: s.len() - at - 3,
+                        from: at + form::END_BYTES,
+                        size: s.len() - at - form::END_BYTES,
                     };
                 }
             }
-            Field::Bad { number, size } => {
+            TableField::Bad { number, size } => {
                 break Scanned::Broken {
                     number,
                     from: at,
@@ -65,74 +76,94 @@ pub fn scan_fields(s: &[u8]) -> Scanned
 }
 
 // The field at the start of s; full: sixteen rows came before it.
-fn field_of(s: &[u8], full: bool) -> Field
-    ensures { λ r. ⌜ r ≡ fieldOf full (now (s .entry)) ⌝ }
+fn field_of(s: &[u8], full: bool) -> TableField
+    ensures { λ r. ⌜ r ≡ nextField full (now (s .entry)) ⌝ }
 {
-    if s.len() < 3 {
-        return Field::Bad {
-            number: 1,
-            size: s.len(),
-        };
-    }
-    let tag = s[0];
-    if tag == 1 {
-        row_field(s, full)
-    } else if tag == 15 {
-        end_field(s)
-    } else {
-        Field::Bad { number: 2, size: 3 }
+    let tag = wire::tag_of(s);
+    match wire::check_field(s, value_length(tag), (tag == form::ROW_TAG) & full) {
+        FieldCheck::Bad { number, size } => TableField::Bad { number, size },
+        FieldCheck::Whole { size } => {
+            if tag == form::ROW_TAG {
+                TableField::Row { size }
+            } else {
+                TableField::End
+            }
+        }
     }
 }
 
-// A field with a row's tag.
-fn row_field(s: &[u8], full: bool) -> Field
-    requires { ⌜ 3 ≤ length (now s) ⌝ }
-    ensures { λ r. ⌜ r ≡ fieldUnless (valueFault (some 7) full (now (s .entry))) Field.Row ⌝ }
+// How long the value of a table tag is.
+fn value_length(tag: u8) -> ValueLength
+    ensures { λ r. ⌜ lengthOf r ≡ tableLength tag ⌝ }
 {
-    if wire::get_u16(s, 1) != 7 {
-        return Field::Bad { number: 3, size: 3 };
-    }
-    if full {
-        return Field::Bad { number: 5, size: 3 };
-    }
-    if s.len() < 10 {
-        return Field::Bad {
-            number: 1,
-            size: s.len(),
-        };
-    }
-    Field::Row
-}
-
-// A field with the end's tag.
-fn end_field(s: &[u8]) -> Field
-    requires { ⌜ 3 ≤ length (now s) ⌝ }
-    ensures { λ r. ⌜ r ≡ fieldUnless (valueFault (some 0) false (now (s .entry))) Field.End ⌝ }
-{
-    if wire::get_u16(s, 1) != 0 {
-        Field::Bad { number: 3, size: 3 }
+    if tag == form::ROW_TAG {
+        ValueLength::Known(form::ROW_LENGTH)
+    } else if tag == form::END_TAG {
+        ValueLength::Known(form::END_LENGTH)
     } else {
-        Field::End
+        ValueLength::Unknown
     }
 }
 
 // The table of a file's first n rows.
 pub fn table_at(s: &[u8], n: usize) -> Table
-    requires { ⌜ (n ≤ 16) × (10 * n ≤ length (now s)) ⌝ }
+    requires { ⌜ (n ≤ 16) × RowFields (now s) n ⌝ }
     ensures { λ r. ⌜ r ≡ tableOf (rowsIn (now (s .entry)) n) ⌝ }
 {
     let mut c = [0u16; 16];
     let mut d = [0u16; 16];
     let mut t = [0u16; 16];
     let mut rank = [0u8; 16];
+    let mut at: usize = 0;
     let mut i: usize = 0;
     while i < n {
-        let at = 10 * i;
-        c[i] = wire::get_u16(s, at + 3);
-        d[i] = wire::get_u16(s, at + 5);
-        t[i] = wire::get_u16(s, at + 7);
-        rank[i] = s[at + 9];
+        let row = row_at(s, at);
+        c[i] = row.c;
+        d[i] = row.d;
+        t[i] = row.t;
+        rank[i] = row.rank;
+        at += field_size(s, at);
         i += 1;
     }
     Table { n, c, d, t, rank }
+}
+
+// The row whose field stands at a place.
+fn row_at(s: &[u8], at: usize) -> FileRow
+    requires { ⌜ at + 10 ≤ length (now s) ⌝ }
+    ensures { λ r. ⌜ r ≡ fileRow (rowOf (drop at (now (s .entry)))) ⌝ }
+{
+    FileRow {
+        c: wire::get_u16(s, at + 3),
+        d: wire::get_u16(s, at + 5),
+        t: wire::get_u16(s, at + 7),
+        rank: s[at + 9],
+    }
+}
+
+// A refusal of the row at a position, which shows the row's whole field: each field starts where the one before it ends.
+pub fn row_refusal(s: &[u8], number: u8, row: usize) -> FileRefusal
+    requires { ⌜ (row < 16) × RowFields (now s) (suc row) ⌝ }
+    ensures { λ r. ⌜ r ≡ rowRefusal (now (s .entry)) number row ⌝ }
+{
+    let mut at: usize = 0;
+    let mut k: usize = 0;
+    while k < row {
+        at += field_size(s, at);
+        k += 1;
+    }
+    FileRefusal {
+        number,
+        row: row as u8 + 1,
+        from: at,
+        size: field_size(s, at),
+    }
+}
+
+// The size of the field at a place, by its header.
+fn field_size(s: &[u8], at: usize) -> usize
+    requires { ⌜ at + 3 ≤ length (now s) ⌝ }
+    ensures { λ r. ⌜ r ≡ fieldSize (drop at (now (s .entry))) ⌝ }
+{
+    3 + wire::get_u16(s, at + 1) as usize
 }

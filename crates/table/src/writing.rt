@@ -1,40 +1,53 @@
 // The bytes of a table's file, put at the front of an output.
 use crate::Table;
 use crate::Written;
+use crate::form;
 ghost use mathlib.Core.Path.{_≡_};
 ghost use mathlib.Core.List.{[]};
-ghost use Prim.Native.Nat.{_+_, _*_, _≤_};
+ghost use Prim.Native.Nat.{_+_, _≤_};
 ghost use lib.ListN.{length};
 ghost use lib.Seq.{sets};
 ghost use Rattle.rules.specs.File.{rowBytes, fileBytes, put};
 ghost use Rattle.table.specs.Memory.{rowsOf, rowsBytes};
-ghost use Rattle.table.specs.Answers.{writtenOf, heldOf};
+ghost use Rattle.table.specs.Answers.{writtenOf, outputAfter};
 
 // The whole file, where it fits: 19 where it does not.
 pub fn put_table(tb: Table, out: &mut [u8]) -> Written
     requires { ⌜ tb .n ≤ 16 ⌝ }
     ensures { λ r. ⌜ r ≡ writtenOf (put (fileBytes (rowsOf tb)) (now (out .entry))) ⌝ }
-    ensures { λ _. ⌜ now (out .exit) ≡ heldOf (now (out .entry)) (put (fileBytes (rowsOf tb)) (now (out .entry))) ⌝ }
+    ensures { λ _. ⌜ now (out .exit) ≡ outputAfter (now (out .entry)) (put (fileBytes (rowsOf tb)) (now (out .entry))) ⌝ }
 {
-    let size = 10 * tb.n + 3;
+    let size = file_size(tb);
     if out.len() < size {
         return Written::Refused(19);
     }
-    put_rows(tb, out);
-    put_end(out, size - 3);
+    let end = put_rows(tb, out);
+    put_end(out, end);
     Written::Length(size)
 }
 
-// The fields of the rows, one after the other.
-fn put_rows(tb: Table, out: &mut [u8])
-    requires { ⌜ (tb .n ≤ 16) × (10 * tb .n ≤ length (now out)) ⌝ }
+// How long the file is.
+fn file_size(tb: Table) -> usize
+    requires { ⌜ tb .n ≤ 16 ⌝ }
+    ensures { λ r. ⌜ r ≡ length (fileBytes (rowsOf tb)) ⌝ }
+{
+    form::ROW_BYTES * tb.n + form::END_BYTES
+}
+
+// The fields of the rows, one after the other; the place after the last.
+fn put_rows(tb: Table, out: &mut [u8]) -> usize
+    requires { ⌜ (tb .n ≤ 16) × (length (rowsBytes (rowsOf tb)) ≤ length (now out)) ⌝ }
+    ensures { λ r. ⌜ r ≡ length (rowsBytes (rowsOf tb)) ⌝ }
     ensures { λ _. ⌜ now (out .exit) ≡ sets (now (out .entry)) 0 (rowsBytes (rowsOf tb)) ⌝ }
 {
+    let mut at: usize = 0;
     let mut i: usize = 0;
     while i < tb.n {
-        put_row(out, 10 * i, tb.c[i], tb.d[i], tb.t[i], tb.rank[i]);
+        put_row(out, at, tb.c[i], tb.d[i], tb.t[i], tb.rank[i]);
+        at += form::ROW_BYTES;
         i += 1;
     }
+    at
 }
 
 // One row's field at a place.
@@ -42,8 +55,8 @@ fn put_row(out: &mut [u8], at: usize, c: u16, d: u16, t: u16, rank: u8)
     requires { ⌜ at + 10 ≤ length (now out) ⌝ }
     ensures { λ _. ⌜ now (out .exit) ≡ sets (now (out .entry)) at (rowBytes (record { C = c; D = d; T = t; rank = rank })) ⌝ }
 {
-    wire::put_u8(out, at, 1);
-    wire::put_u16(out, at + 1, 7);
+    wire::put_u8(out, at, form::ROW_TAG);
+    wire::put_u16(out, at + 1, form::ROW_LENGTH);
     wire::put_u16(out, at + 3, c);
     wire::put_u16(out, at + 5, d);
     wire::put_u16(out, at + 7, t);
@@ -55,6 +68,6 @@ fn put_end(out: &mut [u8], at: usize)
     requires { ⌜ at + 3 ≤ length (now out) ⌝ }
     ensures { λ _. ⌜ now (out .exit) ≡ sets (now (out .entry)) at (fileBytes []) ⌝ }
 {
-    wire::put_u8(out, at, 15);
-    wire::put_u16(out, at + 1, 0);
+    wire::put_u8(out, at, form::END_TAG);
+    wire::put_u16(out, at + 1, form::END_LENGTH);
 }

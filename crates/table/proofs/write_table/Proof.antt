@@ -4,7 +4,7 @@ use native.Mathlib.Omega.{arith}
 use borrow.Author.Needs.{needs}
 use Rattle.rules.specs.File.{fileBytes}
 use Rattle.table.specs.Memory.{rowAt, rowsOf}
-use Rattle.table.specs.Answers.{planningOf, planOrRefuse, writtenOf, heldOf}
+use Rattle.table.specs.Answers.{planningOf, planOrRefuse, writtenOf, outputAfter}
 use Rattle.table.specs.declared.Planning.{Planning}
 use Rattle.table.proofs.Places.{length-indexed}
 use Rattle.table.proofs.Verdicts.{write-plans, failed-written, passed-written, passed-few}
@@ -34,7 +34,7 @@ returns c =
     let rs = rowsOf (a .tb) in
     let plans = sym (write-plans rs (a .out .now)) in
     let h = failed-written (planOrRefuse rs) (fileBytes rs) (a .out .now) (sym (verdict (c .before .before .before)) ∙ c .before .verdict .given .1) in
-    (h .0 ∙ ap writtenOf plans, h .1 ∙ ap (heldOf (a .out .now)) plans)
+    (h .0 ∙ ap writtenOf plans, h .1 ∙ ap (outputAfter (a .out .now)) plans)
 
 same-length : tie.Need-same-length
 same-length c = search needs
@@ -45,7 +45,7 @@ returns-2 c =
     let call = c .before .before in
     let rs = rowsOf (a .tb) in
     let plans = passed-written (planOrRefuse rs) (fileBytes rs) (a .out .now) (sym (verdict (call .before .before .before .before)) ∙ call .before .before .enum-told .given .1) ∙ sym (write-plans rs (a .out .now)) in
-    (call .put-table .ensures .0 ∙ ap writtenOf plans, call .put-table .ensures .1 ∙ ap (heldOf (a .out .now)) plans)
+    (call .put-table .ensures .0 ∙ ap writtenOf plans, call .put-table .ensures .1 ∙ ap (outputAfter (a .out .now)) plans)
 
 pub write-table-spec : {M : Type 1} → statement M
 write-table-spec =

@@ -1,50 +1,66 @@
--- `table::scan::field_of` meets its contract: the tests on the way to each answer. Assumes nothing.
-use mathlib.Core.Path.{_≡_}
-use mathlib.Core.Bool.{false}
-use lib.Dec.{ltb}
-use lib.ListN.{length}
-use borrow.Author.Tests.{eq-eqb, ne-eqb, lt-ltb, le-ltb}
+-- `table::scan::field_of` meets its contract: by what the check of the field says. Assumes nothing.
+use mathlib.Core.Bool.{Bool, _&&_}
+use mathlib.Core.Option.{Option}
+use mathlib.Core.Path.{_≡_, sym, ap, ap₂, _∙_}
+use Prim.Native.Nat.{ℕ}
+use lib.Dec.{eqb}
 use borrow.Author.Needs.{needs}
-use Rattle.table.specs.Answers.{fieldOf}
+use Rattle.rules.specs.Fields.{byte}
+use Rattle.rules.specs.File.{isRow, rowTag, tableLength}
+use Rattle.wire.specs.Field.{fieldCheck}
+use Rattle.table.proofs.Fields.{bad-found, row-found, end-found}
 use Rattle.table.proofs.scan.field_of.Statement.{statement}
 use Rattle.table.proofs.scan.field_of.Tie as tie
 
+-- the check of the field, as the rules have it
+checked : (c : tie.After-check-field) → let a = c .before .before .before .before .args in fieldCheck (tableLength (byte (a .s .now) 0)) (isRow (a .s .now) && a .full) (a .s .now) ≡ c .check-field .result
+checked c =
+    let a = c .before .before .before .before .args in
+    let tag = c .before .before .tag-of .ensures in
+    sym
+    (c .check-field .ensures
+    ∙ ap (λ (v : Option ℕ). fieldCheck v (eqb (c .before .before .tag-of .result) rowTag && a .full) (a .s .now)) (c .before .value-length .ensures)
+    ∙ ap (λ (t : ℕ). fieldCheck (tableLength t) (eqb t rowTag && a .full) (a .s .now)) tag)
+
+tag-of-requires : tie.Need-tag-of-requires
+tag-of-requires c κs = search needs
+
+value-length-requires : tie.Need-value-length-requires
+value-length-requires c κs = search needs
+
+check-field-requires : tie.Need-check-field-requires
+check-field-requires c κs = search needs
+
+enum-known-number : tie.Need-enum-known-number
+enum-known-number c = search needs
+
+enum-known-size : tie.Need-enum-known-size
+enum-known-size c = search needs
+
 returns : tie.Need-returns
-unfolding fieldOf
-returns c = simp (lt-ltb _ _ (c .if1 .taken))
-
-shared-slice-read-tag : tie.Need-shared-slice-read-tag
-shared-slice-read-tag c = search needs
-
-row-field-requires : tie.Need-row-field-requires
-row-field-requires c κs = search needs
-
-end-field-requires : tie.Need-end-field-requires
-end-field-requires c κs = search needs
+returns c =
+    let a = c .before .before .before .before .before .before .before .args in
+    bad-found (a .full) (a .s .now) (checked (c .before .before .before) ∙ c .before .number .given .1)
 
 returns-2 : tie.Need-returns-2
-unfolding fieldOf
-returns-2 c = simp (le-ltb _ _ (c .before .before .before .if1 .left), eq-eqb _ _ (c .before .if2 .taken)) (c .row-field .ensures)
+returns-2 c =
+    let a = c .before .before .before .before .before .before .before .before .args in
+    row-found (a .full) (a .s .now) (checked (c .before .before .before .before) ∙ c .before .before .size .given .1) (sym (c .before .before .before .before .before .before .tag-of .ensures) ∙ c .if1 .taken)
 
 returns-3 : tie.Need-returns-3
-unfolding fieldOf
 returns-3 c =
-    let s = c .before .before .before .before .before .before .args .s .now in
-    let long : ltb (length s) 3 ≡ false = le-ltb _ _ (c .before .before .before .before .if1 .left) in
-    simp (long, ne-eqb _ _ (c .before .before .if2 .left), eq-eqb _ _ (c .before .if3 .taken)) (simp long at (c .end-field .ensures))
-
-returns-4 : tie.Need-returns-4
-unfolding fieldOf
-returns-4 c = simp (le-ltb _ _ (c .before .before .before .if1 .left), ne-eqb _ _ (c .before .if2 .left), ne-eqb _ _ (c .if3 .left))
+    let a = c .before .before .before .before .before .before .before .before .args in
+    end-found (a .full) (a .s .now) (checked (c .before .before .before .before) ∙ c .before .before .size .given .1) (λ e. c .if1 .left (c .before .before .before .before .before .before .tag-of .ensures ∙ e))
 
 pub field-of-spec : {M : Type 1} → statement M
 field-of-spec =
     tie.close
     (tie.spec
+    tag-of-requires
+    value-length-requires
+    check-field-requires
+    enum-known-number
+    enum-known-size
     returns
-    shared-slice-read-tag
-    row-field-requires
-    end-field-requires
     returns-2
-    returns-3
-    returns-4)
+    returns-3)
