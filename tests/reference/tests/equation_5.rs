@@ -1,5 +1,5 @@
 //! Equation (5) of document 004 beside the room test: the examples and counts that
-//! `docs/room-test.md` gives.
+//! `docs/room-test.md` gives. Each test names where on the page they stand.
 
 use reference::random::Random;
 use reference::station::{FirmJob, HardJob, HardRow, Last, Runner, Station};
@@ -127,6 +127,7 @@ fn one_row(row: Row, promotion: u128, age: u16, run: Option<u128>) -> Station {
     Station { time, rows: vec![hard], firm: Vec::new(), acceptances: 0, last: Last::NoJob }
 }
 
+/// "Where they agree"; the counts: "What is tested".
 #[test]
 fn the_claims_of_a_row_agree_exactly_where_the_page_says() {
     let (mut with_job, mut without) = (0, 0);
@@ -162,6 +163,7 @@ fn the_claims_of_a_row_agree_exactly_where_the_page_says() {
     assert_eq!((with_job, without), (99_750, 35_700));
 }
 
+/// "Where they agree"; the fresh table: "Where they differ", 3.
 #[test]
 fn where_they_agree_at_clock_2() {
     let a = at_clock_2();
@@ -170,6 +172,7 @@ fn where_they_agree_at_clock_2() {
     assert_eq!((fresh.room(13), left_over(&fresh, 13, Form::Printed)), (5, 5));
 }
 
+/// "Where they differ", 1.
 #[test]
 fn without_the_floor_an_upload_is_late() {
     let mut a = table_a();
@@ -187,6 +190,7 @@ fn without_the_floor_an_upload_is_late() {
     assert_eq!(slow.clone().offer(50, 5).unwrap_err().number, 16);
 }
 
+/// "Where they differ", 2.
 #[test]
 fn a_job_promoted_before_the_window() {
     let mut one = station(&[(5, 12, 12)]);
@@ -196,6 +200,7 @@ fn a_job_promoted_before_the_window() {
     assert!(!guaranteed(&one, 1, 2, Form::Printed) && one.offer(1, 2).is_err());
 }
 
+/// "Where they differ", 4.
 #[test]
 fn a_total_below_0() {
     let full = station(&[(1, 1, 2), (1, 2, 2)]);
@@ -203,6 +208,7 @@ fn a_total_below_0() {
     assert!(!guaranteed(&full, 1, 1, Form::Printed) && full.clone().offer(1, 1).is_err());
 }
 
+/// "Where they differ", 5.
 #[test]
 fn the_order_of_uploads() {
     let mut empty = station(&[]);
@@ -214,6 +220,7 @@ fn the_order_of_uploads() {
     assert_eq!(empty.offer(2, 3).unwrap_err().number, 18);
 }
 
+/// "Where they differ", 6.
 #[test]
 fn the_printed_promotion_time_leaves_less_room() {
     let a = at_clock_2();
@@ -223,6 +230,7 @@ fn the_printed_promotion_time_leaves_less_room() {
     assert!(a.clone().offer(2, 4).is_ok() && printed.offer(2, 4).is_err());
 }
 
+/// "Where they differ", 7; the total of 11 with 3 for p: "The two formulas".
 #[test]
 fn figure_2_of_document_004() {
     let row = Task { u: 2, c: 3, whole: 4, period: 10, jitter: 2, critical: 1 };
@@ -238,6 +246,7 @@ fn figure_2_of_document_004() {
     assert_eq!([31, 11, 2].map(|d| claims(&station, d)), [11, 3, 0]);
 }
 
+/// "Where they differ", 8.
 #[test]
 fn an_open_job_in_a_rested_row() {
     let row = Row { c: 1, d: 4, t: 4, rank: 0 };
@@ -248,6 +257,7 @@ fn an_open_job_in_a_rested_row() {
     assert_eq!((held.room(3), left_over(&held, 3, Form::Printed)), (2, 2));
 }
 
+/// "What is tested", and what "What this means for a caller" says of any offer.
 #[test]
 fn random_offers_by_both() {
     let mut random = Random::new(5);
