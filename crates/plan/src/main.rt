@@ -1,8 +1,8 @@
 // Reads a table from standard input and prints a line a row: the row, C, D, T, R, U and the rounds; or why it is refused.
 use table::Plan;
-use table::Refusal;
+use table::FileRefusal;
 use table::Table;
-use table::Verdict;
+use table::FileVerdict;
 use wire::Place;
 ghost use Prim.Native.Nat.{_<_, _≤_};
 
@@ -24,12 +24,12 @@ fn show(s: &[u8]) {
     let answer = table::read_table(s);
     let verdict = answer.verdict;
     match verdict {
-        Verdict::Accepted => {
+        FileVerdict::Accepted => {
             let rows = answer.table;
             let plan = answer.plan;
             print_rows(rows, plan);
         }
-        Verdict::Refused(refusal) => print_refusal(s, refusal),
+        FileVerdict::Refused(refusal) => print_refusal(s, refusal),
     }
 }
 
@@ -57,7 +57,7 @@ fn row_number(i: usize) -> u64
     i as u64 + 1
 }
 
-fn print_refusal(s: &[u8], refusal: Refusal) {
+fn print_refusal(s: &[u8], refusal: FileRefusal) {
     print_refused();
     print_number(refusal.number as u64);
     let place = Place::Table {
