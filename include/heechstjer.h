@@ -155,7 +155,7 @@ typedef struct heechstjer_table_answer {
  *   10       then again in each row in turn. row, from and size as for 6 to 9.
  * The shown bytes lie in the table: from + size <= table_bytes. They are table[from] and on; no copy is made.
  */
-heechstjer_plan_answer heechstjer_plan(const uint8_t *table, size_t table_bytes, uint8_t *block, size_t block_bytes);
+heechstjer_plan_answer heechstjer_plan(uint8_t *block, size_t block_bytes, const uint8_t *table, size_t table_bytes);
 
 /* Steps one tick. Bit 0 of released releases row 1, bit 15 row 16. flags is HEECHSTJER_FLAG_DONE,
  * HEECHSTJER_FLAG_SOFT, both or 0.
@@ -223,7 +223,7 @@ heechstjer_table_answer heechstjer_table(const uint8_t *block, size_t block_byte
 static inline heechstjer_plan_answer
 heechstjer_plan_in(uint8_t block[HEECHSTJER_BLOCK_BYTES], const uint8_t *table, size_t table_bytes)
 {
-    return heechstjer_plan(table, table_bytes, block, HEECHSTJER_BLOCK_BYTES);
+    return heechstjer_plan(block, HEECHSTJER_BLOCK_BYTES, table, table_bytes);
 }
 
 static inline heechstjer_tick_answer

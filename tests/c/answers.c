@@ -424,8 +424,8 @@ static void length_is_refused(size_t bytes)
         memset(block, 0, held);
         memcpy(block, s.block, held < BLOCK ? held : BLOCK);
         memcpy(before, block, held);
-        EXPECT(plan_is(heechstjer_plan(table_a, sizeof table_a, block, bytes), 11, 0, 0, 0));
-        EXPECT(plan_is(heechstjer_plan(table_a, 5, block, bytes), 11, 0, 0, 0));
+        EXPECT(plan_is(heechstjer_plan(block, bytes, table_a, sizeof table_a), 11, 0, 0, 0));
+        EXPECT(plan_is(heechstjer_plan(block, bytes, table_a, 5), 11, 0, 0, 0));
         EXPECT(says(heechstjer_tick(block, bytes, 0, 0), "refused 11"));
         EXPECT(says(heechstjer_tick(block, bytes, 0xffff, DONE), "refused 11"));
         EXPECT(says(heechstjer_tick(block, bytes, 0xffff, 4), "refused 20"));
@@ -569,7 +569,7 @@ static void a_refused_call_was_not_made(void)
         heechstjer_tick(s.block, BLOCK, 0, 0x80);
         heechstjer_tick(s.block, BLOCK - 1, 0, 0);
         heechstjer_offer(s.block, BLOCK, 9, 8);
-        heechstjer_plan(table_a, sizeof table_a - 1, s.block, BLOCK);
+        heechstjer_plan(s.block, BLOCK, table_a, sizeof table_a - 1);
         EXPECT(same_block(&s, &quiet));
         heechstjer_tick_answer a = heechstjer_tick_in(s.block, (uint16_t)due, 0);
         heechstjer_tick_answer b = heechstjer_tick_in(quiet.block, (uint16_t)due, 0);

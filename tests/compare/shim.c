@@ -2,9 +2,9 @@
  * array of numbers, so that Rust depends on no layout and what is compared has gone through the header. */
 #include "heechstjer.h"
 
-void shim_plan(const uint8_t *table, size_t table_bytes, uint8_t *block, size_t block_bytes, uint64_t fields[4])
+void shim_plan(uint8_t *block, size_t block_bytes, const uint8_t *table, size_t table_bytes, uint64_t fields[4])
 {
-    heechstjer_plan_answer answer = heechstjer_plan(table, table_bytes, block, block_bytes);
+    heechstjer_plan_answer answer = heechstjer_plan(block, block_bytes, table, table_bytes);
     fields[0] = answer.refusal;
     fields[1] = answer.row;
     fields[2] = answer.from;

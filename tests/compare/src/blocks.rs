@@ -144,7 +144,7 @@ impl Judge {
             assert_eq!(tick, expected::tick(None, 0, 0), "a tick on {length} bytes");
             let offer = library::offer(&mut bytes, 1, 9);
             assert_eq!(offer, expected::offer(None, 1, 9), "an offer on {length} bytes");
-            let plan = library::plan(&[0x0f, 0, 0], &mut bytes);
+            let plan = library::plan(&mut bytes, &[0x0f, 0, 0]);
             assert_eq!(plan, expected::plan(&[0x0f, 0, 0], length).0, "planning on {length} bytes");
             let table = table_back(&bytes, None, file_bytes(MOST_ROWS));
             assert!(bytes == before, "{length} bytes were written to");

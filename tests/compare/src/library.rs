@@ -60,10 +60,10 @@ pub mod flag {
 mod c {
     extern "C" {
         pub fn shim_plan(
-            table: *const u8,
-            table_bytes: usize,
             block: *mut u8,
             block_bytes: usize,
+            table: *const u8,
+            table_bytes: usize,
             fields: *mut u64,
         );
         pub fn shim_tick(
@@ -90,15 +90,15 @@ mod c {
     }
 }
 
-pub fn plan(table: &[u8], block: &mut [u8]) -> PlanAnswer {
+pub fn plan(block: &mut [u8], table: &[u8]) -> PlanAnswer {
     let mut fields = [0; 4];
     // Both slices and the array are lent for the call and have the lengths given.
     unsafe {
         c::shim_plan(
-            table.as_ptr(),
-            table.len(),
             block.as_mut_ptr(),
             block.len(),
+            table.as_ptr(),
+            table.len(),
             fields.as_mut_ptr(),
         )
     };

@@ -76,7 +76,7 @@ impl Pair {
     pub fn planned(file: &[u8]) -> Pair {
         // Planning depends on nothing that the block held.
         let mut lent = Lent::new(&[0x5a; BLOCK]);
-        let answer = library::plan(file, lent.block());
+        let answer = library::plan(lent.block(), file);
         let (want, table) = expected::plan(file, BLOCK);
         assert_eq!(answer, want, "planning");
         let station = Station::new(&table.expect("an accepted table"));
@@ -182,7 +182,7 @@ impl Pair {
     /// flags, which are looked at first.
     fn wrong_length(&mut self, bytes: usize, flags: u8) -> bool {
         let file = [0x0f, 0, 0];
-        let plan = library::plan(&file, self.lent.of_length(bytes));
+        let plan = library::plan(self.lent.of_length(bytes), &file);
         assert_eq!(plan, expected::plan(&file, bytes).0, "planning on {bytes} bytes");
         let tick = library::tick(self.lent.of_length(bytes), 0, flags);
         assert_eq!(tick, expected::tick(None, 0, flags), "a tick on {bytes} bytes");

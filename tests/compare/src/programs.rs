@@ -81,7 +81,7 @@ fn run(seed: u64, table: &Option<Vec<u8>>, events: &Option<Vec<u8>>) -> String {
 fn planned(table: &[u8]) -> u64 {
     let before = [0x3c; BLOCK];
     let mut lent = Lent::new(&before);
-    let answer = library::plan(table, lent.block());
+    let answer = library::plan(lent.block(), table);
     let (want, accepted) = expected::plan(table, BLOCK);
     assert_eq!(answer, want, "planning {table:02x?}");
     let after = accepted.map_or(before, |table| encode(&Station::new(&table)));
