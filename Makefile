@@ -27,6 +27,15 @@ SHELL = bash
 .PHONY: lib kernel test-c install test-install clean
 .DELETE_ON_ERROR:
 
+# What the goals run, looked for before anything is made.
+TOOLS_lib = rt
+TOOLS_kernel = rt $(CC)
+TOOLS_test-c = rt $(CC) $(CXX) valgrind
+TOOLS_test-install = rt $(CC) pkg-config
+ifneq ($(shell tests/tools.sh $(foreach goal,$(or $(MAKECMDGOALS),lib),$(TOOLS_$(goal))) || echo missing),)
+$(error tools are missing)
+endif
+
 lib: $(LIB)
 kernel: $(OUT)/kernel
 
