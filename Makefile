@@ -2,7 +2,8 @@
 #
 #   make lib                  prove the library and write it as an archive
 #   make kernel               the example, target/c/kernel
-#   make test-c               the C tests and the example: plain, as C++, under sanitizers, under valgrind
+#   make needs                what the library asks of a board: symbols, registers, stack
+#   make test-c               the C tests and the example: plain, as C++, under sanitizers, under valgrind; and make needs
 #   make install PREFIX=DIR   library, header and pkg-config file under DIR (default /usr/local)
 #   make test-install         install to a temporary place, and build the example through pkg-config
 #   make clean                remove target/c
@@ -13,9 +14,11 @@ OUT = target/c
 
 CC = gcc
 CXX = g++
-WARNINGS = -Wall -Wextra -Werror -pedantic
-CFLAGS = -std=c99 -O2 -g $(WARNINGS)
-CXXFLAGS = -std=c++11 -O2 -g $(WARNINGS)
+NM = nm
+OBJDUMP = objdump
+WARNINGS = -Wall -Wextra -Werror -pedantic -Wconversion -Wsign-conversion -Wshadow -Wcast-qual -Wundef
+CFLAGS = -std=c99 -O2 -g $(WARNINGS) -Wstrict-prototypes
+CXXFLAGS = -std=c++11 -O2 -g $(WARNINGS) -Wold-style-cast
 SANITIZE = -O1 -fsanitize=address,undefined -fno-sanitize-recover=all
 VALGRIND = valgrind --quiet --error-exitcode=1 --leak-check=full
 
@@ -24,13 +27,14 @@ PROGRAMS = answers answers-sanitized kernel kernel-sanitized kernel-cpp page
 
 SHELL = bash
 .SHELLFLAGS = -euo pipefail -c
-.PHONY: lib kernel test-c install test-install clean
+.PHONY: lib kernel needs test-c install test-install clean
 .DELETE_ON_ERROR:
 
 # What the goals run, looked for before anything is made.
 TOOLS_lib = rt
 TOOLS_kernel = rt $(CC)
-TOOLS_test-c = rt $(CC) $(CXX) valgrind
+TOOLS_needs = rt $(NM) $(OBJDUMP)
+TOOLS_test-c = rt $(CC) $(CXX) valgrind $(NM) $(OBJDUMP)
 TOOLS_test-install = rt $(CC) pkg-config
 ifneq ($(shell tests/tools.sh $(foreach goal,$(or $(MAKECMDGOALS),lib),$(TOOLS_$(goal))) || echo missing),)
 $(error tools are missing)
@@ -68,7 +72,12 @@ $(OUT)/page.c: docs/c-interface.md | $(OUT)
 $(OUT)/page: $(OUT)/page.c $(HEADER) $(LIB)
 	$(CC) $(CFLAGS) -Iinclude $< $(LIB) -o $@
 
+needs: $(LIB)
+	@tests/needs.sh $(LIB) $(NM) $(OBJDUMP)
+
 test-c: $(PROGRAMS:%=$(OUT)/%)
+	tests/c/rows.sh "$(CC)" "$(CXX)"
+	tests/needs.sh $(LIB) $(NM) $(OBJDUMP) | tests/c/said.sh
 	$(OUT)/answers
 	$(OUT)/answers-sanitized | grep -v '^ok '
 	$(VALGRIND) $(OUT)/answers | grep -v '^ok '
@@ -89,7 +98,9 @@ test-install: $(LIB)
 	$(MAKE) --no-print-directory install PREFIX="$$prefix" DESTDIR=; \
 	export PKG_CONFIG_PATH="$$prefix/lib/pkgconfig"; \
 	$(CC) $(CFLAGS) examples/kernel.c $$(pkg-config --cflags --libs heechstjer) -o "$$prefix/kernel"; \
-	"$$prefix/kernel" | diff tests/c/kernel.want -
+	"$$prefix/kernel" | diff tests/c/kernel.want -; \
+	version=$$(sed -n 's/^#define HEECHSTJER_VERSION "\(.*\)"$$/\1/p' "$$prefix/include/heechstjer.h"); \
+	test "$$(pkg-config --modversion heechstjer)" = "$$version" || { echo "heechstjer.pc has not the header's version"; exit 1; }
 
 clean:
 	rm -rf $(OUT)

@@ -10,14 +10,15 @@
 #include <stdio.h>
 #include <stdlib.h>
 
+enum { SAMPLE = 1, STORE = 2, SAMPLE_PERIOD = 8, STORE_PERIOD = 12 };
+
 /* Document 01's table A. */
 static const uint8_t table[] = {
-    0x01, 0x00, 0x07, 0x00, 0x02, 0x00, 0x06, 0x00, 0x08, 0x00, /* row 1, sample: C 2, D 6, T 8, rank 0 */
-    0x01, 0x00, 0x07, 0x00, 0x05, 0x00, 0x0c, 0x00, 0x0c, 0x01, /* row 2, store: C 5, D 12, T 12, rank 1 */
-    0x0f, 0x00, 0x00,                                           /* the end */
+    HEECHSTJER_ROW(2, 6, SAMPLE_PERIOD, 0), /* row 1, sample */
+    HEECHSTJER_ROW(5, 12, STORE_PERIOD, 1), /* row 2, store */
+    HEECHSTJER_END,
 };
 
-enum { SAMPLE = 1, STORE = 2, SAMPLE_PERIOD = 8, STORE_PERIOD = 12 };
 enum { RUN_TICKS = 24, RECORD_READY = 2, UPLOAD_BUDGET = 3, UPLOAD_DEADLINE = 8, MOST_OFFERS = 4 };
 
 enum fate { QUEUED, ARRIVED, NOT_ARRIVED };

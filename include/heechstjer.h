@@ -10,17 +10,29 @@
  *
  * - Nothing is allocated, nothing is global, nothing lent is kept. Table, block and output are the caller's
  *   before, during and after the call; a table may be thrown away once it is planned.
- * - A pointer is followed by the number of bytes it points to. It is never NULL, not even with 0 bytes.
+ * - The block comes first. A pointer is followed by the number of bytes it points to, and may be NULL where that is 0.
  *   Table and block do not overlap, nor do block and output. A block needs no alignment.
  * - The first check that fails, in the order given, is the refusal. Its number stands in the field `refusal`,
  *   where 0 says accepted.
  * - A refusal writes nothing: every byte of block and output is as before the call, and the next call is answered
  *   as if the refused one had not been made. Every field of the answer that the refusal isn't said to give is 0.
+ * - An answer may have padding, whose bytes say nothing: compare fields, not bytes.
  * - The answer and the bytes written depend on the arguments and the block's bytes alone. So a copy of a
  *   block, at any address, is the same state; and two blocks know nothing of each other.
  * - What is said of being in time holds for a block that only these functions have written since it was planned.
  * - Threads: calls on different blocks may run at the same time, calls on one block may not. Where an interrupt
- *   makes the ticks, hold it off while you make an offer on its block or read its table back.
+ *   makes the ticks, hold it off while you make an offer on its block. Reading the table back takes as long as
+ *   planning: hold the interrupt off while you copy the block's 512 bytes, and read the copy.
+ *
+ * A tick may be made in an interrupt handler. The code is for x86-64 and the System V convention, and
+ *
+ * - changes what that convention lets a function change, so save it: rax, rcx, rdx, rsi, rdi, r8 to r11, the flags,
+ *   xmm0 to xmm15, the flags of mxcsr. It uses no wider vector register and no x87 or MMX register;
+ * - wants every exception of mxcsr masked, as 0x1f80 has it;
+ * - uses the red zone, the 128 bytes below the stack pointer. So an interrupt that may come during a call, to whichever
+ *   function, has a stack of its own, or is held off;
+ * - takes at most HEECHSTJER_STACK_BYTES of stack, return address and red zone included, beside what memcpy takes;
+ * - needs memcpy from you or your compiler's library, and no other symbol.
  *
  * The header needs C99 or C++11 and no library: its three includes are there on a board without one.
  */
@@ -35,6 +47,12 @@
 extern "C" {
 #endif
 
+/* The version of header and library, which `pkg-config --modversion heechstjer` gives too. */
+#define HEECHSTJER_VERSION "0.1.0"
+#define HEECHSTJER_VERSION_MAJOR 0
+#define HEECHSTJER_VERSION_MINOR 1
+#define HEECHSTJER_VERSION_PATCH 0
+
 /* Sizes. */
 #define HEECHSTJER_BLOCK_BYTES 512 /* the state block, never more or fewer */
 #define HEECHSTJER_MOST_ROWS 16    /* a table has 0 to 16 rows */
@@ -42,6 +60,21 @@ extern "C" {
 #define HEECHSTJER_ROW_BYTES 10    /* a row in a table file: 01 00 07, C, D, T (2 bytes each), rank (1), big-endian */
 #define HEECHSTJER_END_BYTES 3     /* the end field of a table file: 0f 00 00, required and last */
 #define HEECHSTJER_MOST_TABLE_BYTES 163 /* the longest table that is accepted: 16 rows and the end field */
+#define HEECHSTJER_STACK_BYTES 2048 /* the stack that a call takes, at most */
+
+/* A table written in C, its rows in order and then the end:
+ *     static const uint8_t table[] = {HEECHSTJER_ROW(2, 6, 8, 0), HEECHSTJER_ROW(5, 12, 12, 1), HEECHSTJER_END};
+ * They are the bytes of the fields. C, D, T and rank are constants of an integer type; one that is below 0 or does not
+ * fit its field (65,535, and 255 for rank) does not compile.
+ */
+#define HEECHSTJER_ROW(C, D, T, rank) \
+    0x01, 0x00, 0x07, HEECHSTJER_TWO_BYTES(C), HEECHSTJER_TWO_BYTES(D), HEECHSTJER_TWO_BYTES(T), \
+    HEECHSTJER_FITS(rank, 0xff) * (rank)
+#define HEECHSTJER_END 0x0f, 0x00, 0x00
+
+/* Of HEECHSTJER_ROW: a number big-endian; and 1 for a number within the ones, else an array of -1 bytes, an error. */
+#define HEECHSTJER_TWO_BYTES(x) HEECHSTJER_FITS(x, 0xffff) * ((x) >> 8), (x) & 0xff
+#define HEECHSTJER_FITS(x, ones) sizeof(char[(x) == ((x) & (ones)) ? 1 : -1])
 
 /* Refusals, by document 01's numbers. */
 enum heechstjer_refusal {
@@ -187,8 +220,9 @@ heechstjer_tick_answer heechstjer_tick(uint8_t *block, size_t block_bytes, uint1
 /* Offers an upload: budget ticks of work, to be had in the next deadline ticks. Made between ticks.
  *
  * Accepted: refusal is 0, ticket names the upload, and it is the last in the queue. Unless it is reported done
- * before, it is named budget times in the next deadline accepted ticks, whatever else is called, and never more.
- * It is complete only when a tick's answer closes it as done. It keeps its place in the queue until it closes.
+ * before, it is named budget times in the next deadline accepted ticks, whatever else is called, and never more
+ * until its ticket is given again, 2^32 acceptances later. It is complete only when a tick's answer closes it as
+ * done. It keeps its place in the queue until it closes.
  *
  * Checks, in this order:
  *   11  block_bytes is not 512, or the block's bytes are not the image of a state.
@@ -198,6 +232,9 @@ heechstjer_tick_answer heechstjer_tick(uint8_t *block, size_t block_bytes, uint1
  *   18  room is short: of the next deadline ticks, those that hard rows may claim and those that the queued uploads
  *       still have to run leave fewer than budget (document 01, "The upload offer").
  * Refused: ticket is 0, and that is no ticket. The clock doesn't move in either case.
+ *
+ * For 18 it adds a term for each job that a row may release in the window, so its time grows with deadline: up to
+ * deadline + 16 terms on a block that was planned, up to 16 times deadline on any other.
  */
 heechstjer_offer_answer heechstjer_offer(uint8_t *block, size_t block_bytes, uint16_t budget, uint16_t deadline);
 
@@ -247,7 +284,8 @@ heechstjer_table_in(const uint8_t block[HEECHSTJER_BLOCK_BYTES], uint8_t *out, s
 /* The release bit of a row: bit row - 1 for 1 to 16, no bit for any other number. */
 static inline uint16_t heechstjer_row_bit(unsigned row)
 {
-    return (uint16_t)(row >= 1 && row <= HEECHSTJER_MOST_ROWS ? 1u << (row - 1) : 0u);
+    const unsigned bit = row >= 1 && row <= HEECHSTJER_MOST_ROWS ? 1u << (row - 1) : 0u;
+    return bit & 0xffffu;
 }
 
 /* Whether this tick closed the upload of this ticket, done or spent. */

@@ -271,12 +271,38 @@ static void refusals_have_their_numbers(void)
         EXPECT(numbers[i] == i);
 }
 
+static void the_version_is_that_of_its_numbers(void)
+{
+    static const int numbers[] = {HEECHSTJER_VERSION_MAJOR, HEECHSTJER_VERSION_MINOR, HEECHSTJER_VERSION_PATCH};
+    char text[40];
+    snprintf(text, sizeof text, "%d.%d.%d", numbers[0], numbers[1], numbers[2]);
+    EXPECT(strcmp(HEECHSTJER_VERSION, text) == 0);
+}
+
 static void a_row_bit_is_one_bit_of_16(void)
 {
     EXPECT(heechstjer_row_bit(0) == 0 && heechstjer_row_bit(17) == 0);
     EXPECT(heechstjer_row_bit(33) == 0 && heechstjer_row_bit(~0u) == 0);
     for (unsigned row = 1; row <= 16; row++)
         EXPECT(heechstjer_row_bit(row) == 1u << (row - 1));
+}
+
+/* ---- A table written in C ---- */
+
+static void rows_in_c_are_the_bytes_of_a_file(void)
+{
+    enum { SEVEN = 7 };
+    static const uint8_t a[] = {HEECHSTJER_ROW(2, 6, 8, 0), HEECHSTJER_ROW(5, 12, 12, 1), HEECHSTJER_END};
+    static const uint8_t largest[] = {HEECHSTJER_ROW(65535, 65535, 65535, 255), HEECHSTJER_END};
+    static const uint8_t largest_bytes[] = {1, 0, 7, 0xff, 0xff, 0xff, 0xff, 0xff, 0xff, 0xff, 0x0f, 0, 0};
+    static const uint8_t made[] = {HEECHSTJER_ROW(0x1200 | 0x34, SEVEN + 1, 1 ? 0xabcdu : 0, SEVEN & 2)};
+    static const uint8_t made_bytes[] = {1, 0, 7, 0x12, 0x34, 0, 8, 0xab, 0xcd, 2};
+    static const uint8_t none[] = {HEECHSTJER_END};
+    EXPECT(sizeof a == sizeof table_a && memcmp(a, table_a, sizeof a) == 0);
+    EXPECT(sizeof largest == sizeof largest_bytes && memcmp(largest, largest_bytes, sizeof largest) == 0);
+    EXPECT(sizeof made == sizeof made_bytes && memcmp(made, made_bytes, sizeof made) == 0);
+    EXPECT(sizeof none == sizeof empty_table && memcmp(none, empty_table, sizeof none) == 0);
+    EXPECT(sizeof made == HEECHSTJER_ROW_BYTES && sizeof none == HEECHSTJER_END_BYTES);
 }
 
 /* ---- Planning ---- */
@@ -290,8 +316,8 @@ typedef struct plan_case {
     uint8_t table[26];
 } plan_case;
 
-#define ROW(c, d, t, rank) 0x01, 0x00, 0x07, 0x00, c, 0x00, d, 0x00, t, rank
-#define END 0x0f, 0x00, 0x00
+#define ROW HEECHSTJER_ROW
+#define END HEECHSTJER_END
 
 static const plan_case plan_cases[] = {
     {"refusal 1: a table of no bytes shows none", 1, 0, 0, 0, 0, {0}},
@@ -484,6 +510,43 @@ static void every_flipped_bit_is_judged_once(void)
             refused += tick.refusal == 11;
         }
     EXPECT(refused > 2048);
+}
+
+/* ---- NULL, where there are no bytes ---- */
+
+static void null_is_an_empty_table(void)
+{
+    station s = at_clock_2(), before = s;
+    EXPECT(plan_is(heechstjer_plan_in(s.block, NULL, 0), 1, 0, 0, 0));
+    EXPECT(same_block(&s, &before) && guards_stand(&s));
+    EXPECT(ticks(&s, 0, 0, "2 L1 -")); /* as if nobody had planned */
+}
+
+static void null_is_a_block_of_0_bytes(void)
+{
+    EXPECT(plan_is(heechstjer_plan(NULL, 0, table_a, sizeof table_a), 11, 0, 0, 0));
+    EXPECT(plan_is(heechstjer_plan(NULL, 0, NULL, 0), 11, 0, 0, 0));
+    EXPECT(says(heechstjer_tick(NULL, 0, 0, 0), "refused 11"));
+    EXPECT(says(heechstjer_tick(NULL, 0, 0xffff, DONE | SOFT), "refused 11"));
+    EXPECT(says(heechstjer_tick(NULL, 0, 0xffff, 4), "refused 20"));
+    heechstjer_offer_answer good = heechstjer_offer(NULL, 0, 2, 4), bad = heechstjer_offer(NULL, 0, 0, 0);
+    EXPECT(good.refusal == 11 && good.ticket == 0 && bad.refusal == 11 && bad.ticket == 0);
+    EXPECT(keeps_back(NULL, 0, HEECHSTJER_MOST_TABLE_BYTES, 11) && keeps_back(NULL, 0, 0, 11));
+    heechstjer_table_answer nowhere = heechstjer_table(NULL, 0, NULL, 0);
+    EXPECT(nowhere.refusal == 11 && nowhere.size == 0);
+}
+
+static void null_is_an_output_of_0_bytes(void)
+{
+    station s = at_clock_2(), none = planned(empty_table, sizeof empty_table), before = s;
+    heechstjer_table_answer a = heechstjer_table_in(s.block, NULL, 0);
+    EXPECT(a.refusal == 19 && a.size == 0);
+    a = heechstjer_table_in(none.block, NULL, 0);
+    EXPECT(a.refusal == 19 && a.size == 0);
+    EXPECT(same_block(&s, &before) && gives_back(&s, table_a, sizeof table_a));
+    s.block[LAST_BYTE] = 1;
+    a = heechstjer_table_in(s.block, NULL, 0);
+    EXPECT(a.refusal == 11 && a.size == 0);
 }
 
 /* ---- The tick ---- */
@@ -701,6 +764,18 @@ static void refusal_17_until_the_first_closes(void)
     EXPECT(turns_down(&s, 1, 65535, 17));
 }
 
+/* A ticket comes again 2^32 acceptances later: the next ticket in a fresh block (docs/block.md) is made the last. */
+static void tickets_start_again_after_2_to_the_32(void)
+{
+    station s = planned(empty_table, sizeof empty_table);
+    memset(s.block + 8, 0xff, 4);
+    EXPECT(takes(&s, 1, 9, 0xffffffffu) && takes(&s, 2, 9, 0) && takes(&s, 1, 9, 1));
+    EXPECT(ticks(&s, 0, 0, "0 F4294967295 -"));
+    EXPECT(ticks(&s, 0, 0, "1 F0 F4294967295 spent"));
+    EXPECT(ticks(&s, 0, 0, "2 F0 -"));
+    EXPECT(ticks(&s, 0, 0, "3 F1 F0 spent"));
+}
+
 /* ---- The table read back ---- */
 
 static void the_table_comes_back(void)
@@ -716,6 +791,15 @@ static void the_table_comes_back(void)
     EXPECT(ticks(&s, 1, 0, "refused 14 row 1"));
     EXPECT(gives_back(&s, table_a, sizeof table_a));
     EXPECT(ticks(&s, 0, 0, "3 F0 -")); /* as if nobody had asked */
+}
+
+/* What the header asks where an interrupt ticks: the bytes are copied, and the copy is read meanwhile. */
+static void the_table_of_a_copy(void)
+{
+    station s = at_clock_2(), copy = s;
+    EXPECT(ticks(&s, 0, 0, "2 L1 -"));
+    EXPECT(gives_back(&copy, table_a, sizeof table_a));
+    EXPECT(ticks(&s, 0, 0, "3 L2 H1 spent"));
 }
 
 static void sixteen_rows_need_163_bytes(void)
@@ -867,7 +951,9 @@ static void hard_jobs_and_uploads_are_in_time(void)
 
 static const struct { const char *name; void (*run)(void); } tests[] = {
     {"every refusal has document 01's number", refusals_have_their_numbers},
+    {"the version is that of its three numbers", the_version_is_that_of_its_numbers},
     {"a row's bit is one of 16", a_row_bit_is_one_bit_of_16},
+    {"rows written in C are the bytes of a file", rows_in_c_are_the_bytes_of_a_file},
     {"tables of 0, 1 and 16 rows are planned", tables_of_0_1_and_16_rows_are_planned},
     {"planning writes all 512 bytes, by the table alone", planning_writes_all_of_the_block},
     {"the table may be thrown away once planned", the_table_may_be_thrown_away},
@@ -878,6 +964,9 @@ static const struct { const char *name; void (*run)(void); } tests[] = {
     {"refusal 11: a block of 513 bytes", refusal_11_for_513_bytes},
     {"refusal 11: a flipped bit in the reserved part", refusal_11_for_a_flipped_bit},
     {"every flipped bit is judged alike by tick, offer and table", every_flipped_bit_is_judged_once},
+    {"NULL is an empty table: refusal 1", null_is_an_empty_table},
+    {"NULL is a block of 0 bytes: refusal 11", null_is_a_block_of_0_bytes},
+    {"NULL is an output of 0 bytes: refusal 19", null_is_an_output_of_0_bytes},
     {"document 01's listing", the_listing_of_document_01},
     {"refusal 12: the lowest row above n", refusal_12_names_the_lowest_row_above_n},
     {"refusal 13: done, and no job ran", refusal_13_where_no_job_ran},
@@ -894,7 +983,9 @@ static const struct { const char *name; void (*run)(void); } tests[] = {
     {"refusal 18: room to the tick", room_to_the_tick},
     {"refusals 15 and 16", refusals_15_and_16},
     {"refusal 17: eight queued, until the first closes", refusal_17_until_the_first_closes},
+    {"tickets start again after 2^32", tickets_start_again_after_2_to_the_32},
     {"the table comes back byte for byte, whatever was called", the_table_comes_back},
+    {"the table of a copy is read while the block ticks on", the_table_of_a_copy},
     {"sixteen rows come back in 163 bytes", sixteen_rows_need_163_bytes},
     {"refusal 19: an output up to one byte short", refusal_19_up_to_one_byte_short},
     {"refusal 10: the table of a block that nobody planned", refusal_10_for_a_table_that_nobody_planned},
