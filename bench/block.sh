@@ -1,5 +1,5 @@
 #!/usr/bin/env bash
-# Proves and links what C calls, compares its tick with a plain Rust dispatcher tick by tick and times both; `bench/block.sh count` counts their instructions. Needs rustc, and valgrind to count.
+# Proves and links what C calls, compares its tick with two plain Rust dispatchers tick by tick and times the three; `bench/block.sh count` counts their instructions. Needs an x86-64 machine, rustc, and valgrind to count.
 set -euo pipefail
 cd "$(dirname "$0")/.."
 mkdir -p target/bench
@@ -18,4 +18,5 @@ counted() {
 for work in light firm heavy; do
     counted "$work" ours heechstjer_tick
     counted "$work" plain plain_tick
+    counted "$work" fast fast_tick
 done

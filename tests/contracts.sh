@@ -2,7 +2,7 @@
 # Holds every public function of the libraries to one possible result. Each `ensures` clause must be an equation: of the result, of all
 # fields of the result, or of a lent output at exit. A result needs one, and so does every `&mut`. For each equation the crate's
 # proofs/OneResult.antt must state, under the function's name, One (right side), with x for `now (x .entry)` and for `x .entry`.
-# The programs and the benchmark's loop are left out; docs/promises.md says why.
+# The programs are left out; docs/promises.md says why.
 set -euo pipefail
 shopt -s inherit_errexit
 cd "$(dirname "$0")/../crates"
@@ -58,7 +58,7 @@ fields_of() {
     sed -nE "/^pub struct $1\>/,/^}/s/^ +(pub )?([a-z0-9_]+):.*/\2/p" "$crate"/src/*.rt | tr '\n' ' '
 }
 
-for crate in $(sed -nE 's/^([a-z0-9_]+):.*/\1/p' ../crates.txt | grep -vxE 'plan|run|laps'); do
+for crate in $(sed -nE 's/^([a-z0-9_]+):.*/\1/p' ../crates.txt | grep -vxE 'plan|run'); do
     functions=$(public_functions "$crate")
     while read -r module name; do
         [ -n "$name" ] || continue

@@ -1,22 +1,25 @@
 //! A plain Rust dispatcher: document 01's tick on rows kept as structs, changed in place, each step a scan of the rows.
 
-#[derive(Clone, Copy, Default)]
+use crate::station::{refused, Station, TickAnswer, DONE, FIRST_CLOCK, SOFT};
+use crate::work::{self, Offer, Table};
+
+#[derive(Clone, Copy, Default, PartialEq)]
 pub struct Row {
-    pub c: u16,
-    pub t: u16,
-    pub u: u16,
-    pub rank: u8,
+    c: u16,
+    t: u16,
+    u: u16,
+    rank: u8,
     pub rested: bool,
-    pub release: u32,
+    release: u32,
     pub open: bool,
-    pub run: u16,
+    run: u16,
 }
 
-#[derive(Clone, Copy, Default)]
-pub struct Upload {
-    pub ticket: u32,
-    pub budget: u16,
-    pub run: u16,
+#[derive(Clone, Copy, Default, PartialEq)]
+struct Upload {
+    ticket: u32,
+    budget: u16,
+    run: u16,
 }
 
 #[derive(Clone, Copy, PartialEq)]
@@ -27,13 +30,13 @@ pub enum Last {
 }
 
 #[derive(Clone, Copy)]
-pub enum Band {
+enum Band {
     Upper,
     Lower,
 }
 
 #[derive(Clone, Copy)]
-pub enum Runner {
+enum Runner {
     Hard(usize, Band),
     Firm(u32),
     Soft,
@@ -41,7 +44,7 @@ pub enum Runner {
 }
 
 #[derive(Clone, Copy)]
-pub enum Closing {
+enum Closing {
     Nothing,
     HardDone(usize),
     HardSpent(usize),
@@ -50,28 +53,29 @@ pub enum Closing {
 }
 
 #[derive(Clone, Copy)]
-pub struct Answer {
-    pub clock: u32,
-    pub runner: Runner,
-    pub closing: Closing,
+struct Answer {
+    clock: u32,
+    runner: Runner,
+    closing: Closing,
 }
 
 /// Refusals 12 and 14 with the row, counted from 0, and 13.
 #[derive(Clone, Copy)]
-pub enum Refusal {
+enum Refusal {
     Unknown(usize),
     NoneRan,
     NotReady(usize),
 }
 
+#[derive(PartialEq)]
 pub struct Dispatcher {
-    pub n: usize,
+    n: usize,
     pub rows: [Row; 16],
-    pub uploads: [Upload; 8],
-    pub queued: usize,
-    pub next: u32,
+    uploads: [Upload; 8],
+    queued: usize,
+    next: u32,
     pub last: Last,
-    pub clock: u32,
+    clock: u32,
 }
 
 fn has(set: u16, i: usize) -> bool {
@@ -86,7 +90,7 @@ impl Row {
 
 impl Dispatcher {
     #[inline(always)]
-    pub fn tick(&mut self, set: u16, done: bool, soft: bool) -> Result<Answer, Refusal> {
+    fn step(&mut self, set: u16, done: bool, soft: bool) -> Result<Answer, Refusal> {
         for i in self.n..16 {
             if has(set, i) {
                 return Err(Refusal::Unknown(i));
@@ -191,17 +195,77 @@ impl Dispatcher {
             }
         }
     }
-
-    /// An upload put at the queue's end, as an accepted offer puts it.
-    pub fn queue(&mut self, budget: u16) {
-        if self.queued < 8 {
-            self.uploads[self.queued] = Upload { ticket: self.next, budget, run: 0 };
-            self.queued += 1;
-            self.next = self.next.wrapping_add(1);
-        }
-    }
 }
 
 fn closes(closing: Closing, row: usize) -> bool {
     matches!(closing, Closing::HardDone(i) | Closing::HardSpent(i) if i == row)
+}
+
+impl Station for Dispatcher {
+    fn fresh(table: &Table) -> Dispatcher {
+        let mut rows = [Row::default(); 16];
+        for (row, planned) in rows.iter_mut().zip(table.rows()) {
+            let work::Row { c, t, u, rank } = planned;
+            *row = Row { c, t, u, rank, rested: true, ..Row::default() };
+        }
+        Dispatcher {
+            n: 16,
+            rows,
+            uploads: [Upload::default(); 8],
+            queued: 0,
+            next: 0,
+            last: Last::Nobody,
+            clock: FIRST_CLOCK,
+        }
+    }
+
+    fn tick(&mut self, set: u16, flags: u8) -> TickAnswer {
+        plain_tick(self, set, flags)
+    }
+
+    fn accept(&mut self, offer: Offer) -> u32 {
+        let ticket = self.next;
+        self.uploads[self.queued] = Upload { ticket, budget: offer.budget, run: 0 };
+        self.queued += 1;
+        self.next = self.next.wrapping_add(1);
+        ticket
+    }
+}
+
+#[no_mangle]
+#[inline(never)]
+extern "C" fn plain_tick(dispatcher: &mut Dispatcher, set: u16, flags: u8) -> TickAnswer {
+    if flags > DONE | SOFT {
+        return refused(20, 0);
+    }
+    match dispatcher.step(set, flags & DONE != 0, flags & SOFT != 0) {
+        Ok(answer) => accepted(answer),
+        Err(Refusal::Unknown(i)) => refused(12, number(i)),
+        Err(Refusal::NoneRan) => refused(13, 0),
+        Err(Refusal::NotReady(i)) => refused(14, number(i)),
+    }
+}
+
+fn accepted(answer: Answer) -> TickAnswer {
+    let mut a = TickAnswer { clock: answer.clock, ..TickAnswer::default() };
+    match answer.runner {
+        Runner::Hard(i, Band::Upper) => (a.runner, a.runner_row, a.band) = (1, number(i), 1),
+        Runner::Hard(i, Band::Lower) => (a.runner, a.runner_row, a.band) = (1, number(i), 2),
+        Runner::Firm(ticket) => (a.runner, a.ticket) = (2, ticket),
+        Runner::Soft => a.runner = 3,
+        Runner::Idle => a.runner = 4,
+    }
+    match answer.closing {
+        Closing::Nothing => {}
+        Closing::HardDone(i) => (a.closed, a.closed_row, a.closing) = (1, number(i), 1),
+        Closing::HardSpent(i) => (a.closed, a.closed_row, a.closing) = (1, number(i), 2),
+        Closing::FirmDone(ticket) => (a.closed, a.closed_ticket, a.closing) = (2, ticket, 1),
+        Closing::FirmSpent(ticket) => (a.closed, a.closed_ticket, a.closing) = (2, ticket, 2),
+    }
+    a
+}
+
+/// Rows in answers count from 1.
+fn number(row: usize) -> u8 {
+    row as u8 + 1
 }
