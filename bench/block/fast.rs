@@ -41,6 +41,8 @@ const CLOSED: [(u8, u8); PLACES] = {
 };
 
 /// Every place has its entries, so that closing asks nothing of it: one without a row has no bit in `mark`, and owes 1.
+/// Aligned, so that no vector crosses a line of the cache.
+#[repr(align(64))]
 #[derive(PartialEq)]
 pub struct Dispatcher {
     known: u16,
