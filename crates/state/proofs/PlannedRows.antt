@@ -12,11 +12,11 @@ use Rattle.rules.specs.Rows.{Row}
 use Rattle.rules.specs.Station.{closed, freshSlot, freshStation, hold}
 use Rattle.rules.specs.Tables.{RowNarrow}
 use Rattle.rules.proofs.Walks.{all-imp}
-use Rattle.table.specs.Memory.{fill}
+use Rattle.table.specs.Memory.{fill, rowAt}
 use Rattle.table.proofs.Files.{noRow}
 use Rattle.table.proofs.Places.{column-at}
 use Rattle.state.specs.declared.Rows.{Rows}
-use Rattle.state.specs.Meaning.{Laid, Stored, entry, freshAt, rowAt, rowsFrom, stationOf}
+use Rattle.state.specs.Meaning.{Laid, Stored, entry, freshAt, rowsFrom, stationOf}
 use Rattle.state.specs.Fresh.{freshIn, rowsFor}
 use Rattle.state.proofs.RefineFresh.{fresh-refines}
 
@@ -50,7 +50,7 @@ module _ (ps : List PlannedRow) (few : length ps ≤ 16) where
   field-at : (h : Row → ℕ) → h noRow ≡ 0 → (i : ℕ) → entry (fill 16 (map h rs)) i ≡ h (getD ps i noPlan .row)
   field-at h z i = column-at noRow h rs z (omega (arith, length-rs)) i ∙ ap h (List·getD-map (λ p. p .row) ps i noPlan)
 
-  row-at : (i : ℕ) → rowAt rows i ≡ getD ps i noPlan .row
+  row-at : (i : ℕ) → rowAt (rows .table) i ≡ getD ps i noPlan .row
   row-at i = λ k. record {
     C = field-at (λ r. r .C) refl i k;
     D = field-at (λ r. r .D) refl i k;
@@ -66,10 +66,10 @@ module _ (ps : List PlannedRow) (few : length ps ≤ 16) where
 
   -- nothing past the rows
 
-  none-past : (i : ℕ) → rows .n ≤ i → getD ps i noPlan ≡ noPlan
+  none-past : (i : ℕ) → rows .table .n ≤ i → getD ps i noPlan ≡ noPlan
   none-past i l = List·getD-eq-default ps noPlan (omega (arith, length-rs))
 
-  field-past : (h : Row → ℕ) → h noRow ≡ 0 → (i : ℕ) → rows .n ≤ i → entry (fill 16 (map h rs)) i ≡ 0
+  field-past : (h : Row → ℕ) → h noRow ≡ 0 → (i : ℕ) → rows .table .n ≤ i → entry (fill 16 (map h rs)) i ≡ 0
   field-past h z i l = field-at h z i ∙ ap (λ p. h (p .row)) (none-past i l) ∙ z
 
   narrow-at : (h : Row → ℕ) (w : ℕ) → h noRow ≡ 0 → 0 < w → All (λ r. h r < w) rs → (i : ℕ) → entry (fill 16 (map h rs)) i < w
@@ -94,5 +94,5 @@ module _ (ps : List PlannedRow) (few : length ps ≤ 16) where
   }
 
   -- so with the fresh state they are the fresh station of the plan, and may be stored
-  pub planned-fresh : plan rs ≡ planned ps → All RowNarrow rs → (stationOf rows (freshIn (rows .n)) ≡ freshStation ps) × Stored rows (freshIn (rows .n))
+  pub planned-fresh : plan rs ≡ planned ps → All RowNarrow rs → (stationOf rows (freshIn (rows .table .n)) ≡ freshStation ps) × Stored rows (freshIn (rows .table .n))
   planned-fresh e narrow = fresh-refines rows ps (laid narrow) rs e

@@ -12,14 +12,15 @@ use Rattle.rules.specs.Tick.{bit, lastAt}
 use Rattle.rules.proofs.Facts.{AllRuns, Good, Paid, Runs, TicketsTo}
 use Rattle.rules.proofs.Image.{Image}
 use Rattle.rules.proofs.ImageIs.{image-iff}
+use Rattle.table.specs.Memory.{rowAt}
 use Rattle.state.specs.declared.Rows.{Rows}
 use Rattle.state.specs.declared.State.{State}
-use Rattle.state.specs.Meaning.{Stored, entry, firmAt, lastOf, rowAt, rowsFrom, slotAt, stationOf}
+use Rattle.state.specs.Meaning.{Stored, entry, firmAt, lastOf, rowsFrom, slotAt, stationOf}
 use Rattle.state.proofs.Positions.{all-rows, map-rows}
 
 -- beside the widths that the arrays keep
 pub record Widths (rows : Rows) (s : State) : Type 0 where
-  pub rows-lt : (i : ℕ) → (entry (rows .c) i < 2 ^ 16) × (entry (rows .d) i < 2 ^ 16) × (entry (rows .t) i < 2 ^ 16) × (entry (rows .u) i < 2 ^ 16)
+  pub rows-lt : (i : ℕ) → (entry (rows .table .c) i < 2 ^ 16) × (entry (rows .table .d) i < 2 ^ 16) × (entry (rows .table .t) i < 2 ^ 16) × (entry (rows .u) i < 2 ^ 16)
   pub next-lt : s .next < 2 ^ 32
   pub run-lt : (i : ℕ) → entry (s .run) i < 2 ^ 16
   pub firms-lt : (j : ℕ) → (entry (s .ticket) j < 2 ^ 32) × (entry (s .budget) j < 2 ^ 16) × (entry (s .used) j < 2 ^ 16)
@@ -43,32 +44,32 @@ module _ (rows : Rows) (s : State) (S : Stored rows s) where
 
   -- the rows
 
-  pub row-good : (i : ℕ) → i < rows .n → Good (slotAt rows s i)
+  pub row-good : (i : ℕ) → i < rows .table .n → Good (slotAt rows s i)
   unfolding stationOf
-  row-good i h = all-rows Good (slotAt rows s) 0 (rows .n) (image-of .good) i (omega arith) (omega arith)
+  row-good i h = all-rows Good (slotAt rows s) 0 (rows .table .n) (image-of .good) i (omega arith) (omega arith)
 
-  pub thin : (i : ℕ) → i < rows .n → entry (rows .t) i < 2 ^ 16
+  pub thin : (i : ℕ) → i < rows .table .n → entry (rows .table .t) i < 2 ^ 16
   unfolding stationOf
-  thin i h = all-rows (λ r. r .T < 2 ^ 16) (rowAt rows) 0 (rows .n) (rw (map-rows (λ x. x .row) (slotAt rows s) 0 (rows .n)) at (image-of .table .narrow)) i (omega arith) (omega arith)
+  thin i h = all-rows (λ r. r .T < 2 ^ 16) (rowAt (rows .table)) 0 (rows .table .n) (rw (map-rows (λ x. x .row) (slotAt rows s) 0 (rows .table .n)) at (image-of .table .narrow)) i (omega arith) (omega arith)
 
-  pub positive : (i : ℕ) → i < rows .n → 1 ≤ entry (rows .t) i
+  pub positive : (i : ℕ) → i < rows .table .n → 1 ≤ entry (rows .table .t) i
   positive i h = omega (arith, row-good i h)
 
-  pub U-le : (i : ℕ) → i < rows .n → entry (rows .u) i ≤ entry (rows .t) i
+  pub U-le : (i : ℕ) → i < rows .table .n → entry (rows .u) i ≤ entry (rows .table .t) i
   U-le i h = omega (arith, row-good i h)
 
   -- every width
 
-  row-lt : (i : ℕ) → Dec (i < rows .n) → (entry (rows .c) i < 2 ^ 16) × (entry (rows .d) i < 2 ^ 16) × (entry (rows .t) i < 2 ^ 16) × (entry (rows .u) i < 2 ^ 16)
+  row-lt : (i : ℕ) → Dec (i < rows .table .n) → (entry (rows .table .c) i < 2 ^ 16) × (entry (rows .table .d) i < 2 ^ 16) × (entry (rows .table .t) i < 2 ^ 16) × (entry (rows .u) i < 2 ^ 16)
   row-lt i (yes h) = omega (arith, row-good i h, thin i h)
   row-lt i (no h) = omega (arith, S .kept .table .past i (omega arith))
 
-  run-lt : (i : ℕ) (b : Bool) → bit (s .«open») i ≡ b → Dec (i < rows .n) → entry (s .run) i < 2 ^ 16
+  run-lt : (i : ℕ) (b : Bool) → bit (s .«open») i ≡ b → Dec (i < rows .table .n) → entry (s .run) i < 2 ^ 16
   unfolding stationOf
   run-lt i false e k = omega (arith, S .kept .jobs .run-blank i e)
   run-lt i true e (no h) = absurd (true≢false (sym e ∙ S .kept .jobs .open-past i (omega arith)))
   run-lt i true e (yes h) =
-      let r = runs-rows (lastAt (lastOf s)) (slotAt rows s) 0 (rows .n) (image-of .runs) i (omega arith) (omega arith) in
+      let r = runs-rows (lastAt (lastOf s)) (slotAt rows s) 0 (rows .table .n) (image-of .runs) i (omega arith) (omega arith) in
       omega (arith, r .at-most (entry (s .run) i) (rw e), row-lt i (yes h))
 
   firm-lt : (j : ℕ) → Dec (j < s .count) → (entry (s .ticket) j < 2 ^ 32) × (entry (s .budget) j < 2 ^ 16) × (entry (s .used) j < 2 ^ 16)
@@ -81,8 +82,8 @@ module _ (rows : Rows) (s : State) (S : Stored rows s) where
   pub widths : Widths rows s
   unfolding stationOf
   widths = record {
-    rows-lt = λ i. row-lt i (decLt i (rows .n));
+    rows-lt = λ i. row-lt i (decLt i (rows .table .n));
     next-lt = image-of .tickets .next-lt;
-    run-lt = λ i. run-lt i (bit (s .«open») i) refl (decLt i (rows .n));
+    run-lt = λ i. run-lt i (bit (s .«open») i) refl (decLt i (rows .table .n));
     firms-lt = λ j. firm-lt j (decLt j (s .count));
   }

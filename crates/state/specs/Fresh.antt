@@ -1,4 +1,4 @@
--- A fresh dispatcher: the rows of a planned table, C, D, T and rank from the table and U from the plan; and the fresh state. Assumes nothing.
+-- A fresh dispatcher: its rows, the table with the promotion times of its plan; and the fresh state. Assumes nothing.
 use Prim.Native.Nat.{ℕ}
 use mathlib.Core.List.{List, map}
 use lib.ListN.{replicate}
@@ -12,7 +12,7 @@ use Rattle.state.specs.Sets.{known}
 
 -- the rows of a table and its plan in memory
 abbrev pub plannedRows : Table → Plan → Rows
-plannedRows tb p = record { n = tb .n; c = tb .c; d = tb .d; t = tb .t; u = p .u; rank = tb .rank }
+plannedRows tb p = record { table = tb; u = p .u }
 
 -- the rows of a plan of the rules
 abbrev pub rowsFor : List PlannedRow → Rows

@@ -5,11 +5,11 @@ use mathlib.Core.List.{List, [], _∷_, map}
 use mathlib.Core.Path.{_≡_}
 use lib.Dec.{ltb, eqb}
 use lib.ListN.{length, getD}
-use Rattle.rules.specs.Rows.{Row}
 use Rattle.rules.specs.Bound.{PlannedRow}
 use Rattle.rules.specs.Station.{Job, closed, opened, Slot, Firm, Last, nobody, row-at, firm-of, Station, freshSlot, hold}
 use Rattle.rules.specs.Tick.{bit}
 use Rattle.rules.specs.Image.{isImage}
+use Rattle.table.specs.Memory.{rowAt}
 use Rattle.state.specs.declared.Rows.{Rows}
 use Rattle.state.specs.declared.State.{State}
 
@@ -26,13 +26,9 @@ entry a i = getD a i 0
 abbrev pub wrapped : ℕ → ℕ → ℕ
 wrapped clock stamp = (clock + (2 ^ 32 - stamp)) % 2 ^ 32
 
--- the row at i
-abbrev pub rowAt : Rows → ℕ → Row
-rowAt rows i = record { C = entry (rows .c) i; D = entry (rows .d) i; T = entry (rows .t) i; rank = entry (rows .rank) i }
-
 -- the ticks since the last release: held where the rested mark is set, else by the stamp
 abbrev pub ageAt : Rows → State → ℕ → ℕ
-ageAt rows s i = cond (bit (s .rested) i) (hold (rowAt rows i)) (wrapped (s .clock) (entry (s .stamp) i))
+ageAt rows s i = cond (bit (s .rested) i) (hold (rowAt (rows .table) i)) (wrapped (s .clock) (entry (s .stamp) i))
 
 -- the job of the row at i
 abbrev pub jobAt : State → ℕ → Job
@@ -40,7 +36,7 @@ jobAt s i = cond (bit (s .«open») i) (opened (entry (s .run) i)) closed
 
 -- the row in force at i
 abbrev pub slotAt : Rows → State → ℕ → Slot
-slotAt rows s i = record { row = rowAt rows i; U = entry (rows .u) i; age = ageAt rows s i; job = jobAt s i }
+slotAt rows s i = record { row = rowAt (rows .table) i; U = entry (rows .u) i; age = ageAt rows s i; job = jobAt s i }
 
 -- the firm job at j
 abbrev pub firmAt : State → ℕ → Firm
@@ -48,7 +44,7 @@ firmAt s j = record { ticket = entry (s .ticket) j; budget = entry (s .budget) j
 
 -- all rows in force
 abbrev pub slotsOf : Rows → State → List Slot
-slotsOf rows s = rowsFrom (slotAt rows s) 0 (rows .n)
+slotsOf rows s = rowsFrom (slotAt rows s) 0 (rows .table .n)
 
 -- the queue
 abbrev pub firmsOf : State → List Firm
@@ -66,9 +62,9 @@ stationOf rows s = record { clock = s .clock; slots = slotsOf rows s; firms = fi
 
 -- at most 16 rows, and nothing past them
 pub record TableKept (rows : Rows) : Type 0 where
-  pub few : rows .n ≤ 16
-  pub rank-lt : (i : ℕ) → entry (rows .rank) i < 2 ^ 8
-  pub past : (i : ℕ) → rows .n ≤ i → (entry (rows .c) i ≡ 0) × (entry (rows .d) i ≡ 0) × (entry (rows .t) i ≡ 0) × (entry (rows .u) i ≡ 0) × (entry (rows .rank) i ≡ 0)
+  pub few : rows .table .n ≤ 16
+  pub rank-lt : (i : ℕ) → entry (rows .table .rank) i < 2 ^ 8
+  pub past : (i : ℕ) → rows .table .n ≤ i → (entry (rows .table .c) i ≡ 0) × (entry (rows .table .d) i ≡ 0) × (entry (rows .table .t) i ≡ 0) × (entry (rows .u) i ≡ 0) × (entry (rows .table .rank) i ≡ 0)
 
 -- where the rested mark is not set, the last release is less than T ticks ago; the stamp of a rested row is 0
 pub record TimesKept (rows : Rows) (clock rested : ℕ) (stamp : List ℕ) : Type 0 where
@@ -76,16 +72,16 @@ pub record TimesKept (rows : Rows) (clock rested : ℕ) (stamp : List ℕ) : Typ
   pub rested-lt : rested < 2 ^ 16
   pub stamps : length stamp ≡ 16
   pub stamp-lt : (i : ℕ) → entry stamp i < 2 ^ 32
-  pub rested-past : (i : ℕ) → rows .n ≤ i → bit rested i ≡ false
-  pub stamp-past : (i : ℕ) → rows .n ≤ i → entry stamp i ≡ 0
-  pub young : (i : ℕ) → i < rows .n → bit rested i ≡ false → wrapped clock (entry stamp i) < entry (rows .t) i
+  pub rested-past : (i : ℕ) → rows .table .n ≤ i → bit rested i ≡ false
+  pub stamp-past : (i : ℕ) → rows .table .n ≤ i → entry stamp i ≡ 0
+  pub young : (i : ℕ) → i < rows .table .n → bit rested i ≡ false → wrapped clock (entry stamp i) < entry (rows .table .t) i
   pub stamp-blank : (i : ℕ) → bit rested i ≡ true → entry stamp i ≡ 0
 
 -- a closed job has run 0
 pub record JobsKept (rows : Rows) (o : ℕ) (run : List ℕ) : Type 0 where
   pub open-lt : o < 2 ^ 16
   pub runs : length run ≡ 16
-  pub open-past : (i : ℕ) → rows .n ≤ i → bit o i ≡ false
+  pub open-past : (i : ℕ) → rows .table .n ≤ i → bit o i ≡ false
   pub run-blank : (i : ℕ) → bit o i ≡ false → entry run i ≡ 0
 
 -- at most 8 firm jobs, and nothing past them
@@ -111,10 +107,10 @@ pub record Stored (rows : Rows) (s : State) : Type 0 where
 
 -- the row at a position with its promotion time, rested and without a job
 abbrev pub freshAt : Rows → ℕ → Slot
-freshAt rows i = record { row = rowAt rows i; U = entry (rows .u) i; age = hold (rowAt rows i); job = closed }
+freshAt rows i = record { row = rowAt (rows .table) i; U = entry (rows .u) i; age = hold (rowAt (rows .table) i); job = closed }
 
 -- the table in memory is this plan: its rows and promotion times
 pub record Laid (rows : Rows) (ps : List PlannedRow) : Type 0 where
   pub table : TableKept rows
-  pub T-lt : (i : ℕ) → entry (rows .t) i < 2 ^ 16
-  pub plan-is : rowsFrom (freshAt rows) 0 (rows .n) ≡ map freshSlot ps
+  pub T-lt : (i : ℕ) → entry (rows .table .t) i < 2 ^ 16
+  pub plan-is : rowsFrom (freshAt rows) 0 (rows .table .n) ≡ map freshSlot ps

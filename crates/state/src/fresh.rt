@@ -10,19 +10,8 @@ use table::Table;
 pub fn planned_rows(tb: Table, plan: Plan) -> Rows
     ensures { λ r. ⌜ r ≡ plannedRows tb plan ⌝ }
 {
-    let c = tb.c;
-    let d = tb.d;
-    let t = tb.t;
     let u = plan.u;
-    let rank = tb.rank;
-    Rows {
-        n: tb.n,
-        c,
-        d,
-        t,
-        u,
-        rank,
-    }
+    Rows { table: tb, u }
 }
 
 // The state of a fresh table of n rows, more than 16 counted as 16: every row rested, the clock at 0, nobody ran.

@@ -7,15 +7,12 @@ pub use fresh::planned_rows;
 pub use sets::has;
 pub use sets::known_rows;
 pub use sets::since;
+use table::Table;
 
-// What a tick never changes: the table's rows and their promotion times. Entries of rows that are not there are 0.
+// What a tick never changes: the table and its rows' promotion times. Entries of rows that are not there are 0.
 pub struct Rows {
-    pub n: usize,
-    pub c: [u16; 16],
-    pub d: [u16; 16],
-    pub t: [u16; 16],
+    pub table: Table,
     pub u: [u16; 16],
-    pub rank: [u8; 16],
 }
 
 // What ticks and offers change. open, rested: sets of rows. last: a row below 16, 16 the first firm job, 17 nobody.
