@@ -25,7 +25,7 @@ use Rattle.dispatch.specs.Steps.{chosenIn, closedBy, closingIn, lowerOf,
 
 closing-below : (rows : Rows) (s : State) (d : Bool) → ClosingBelow (closingIn rows s d)
 closing-below rows s d =
-    go (ltb (s .last) 16) refl d (ltb (entry (s .run) (s .last)) (entry (rows .c) (s .last))) (eqb (s .last) 16) (ltb (entry (s .used) 0) (entry (s .budget) 0))
+    go (ltb (s .last) 16) refl d (ltb (entry (s .run) (s .last)) (entry (rows .table .c) (s .last))) (eqb (s .last) 16) (ltb (entry (s .used) 0) (entry (s .budget) 0))
   where
     go : (hard : Bool) → ltb (s .last) 16 ≡ hard → (d left firm due : Bool)
         → ClosingBelow
@@ -73,8 +73,8 @@ choice-below upper ticket best h false e false false = lower-below best h
 
 chosen-below : (rows : Rows) (s : State) (soft : Bool) → RunnerBelow (chosenIn rows s soft)
 chosen-below rows s soft =
-    let low = lowAt (rows .rank) (s .«open») in
-    let lowest = fold-below low (low-below (rows .rank) (s .«open»)) 0 16 noBest (omega arith) (λ q. absurd (omega arith)) in
+    let low = lowAt (rows .table .rank) (s .«open») in
+    let lowest = fold-below low (low-below (rows .table .rank) (s .«open»)) 0 16 noBest (omega arith) (λ q. absurd (omega arith)) in
     choice-below (least (promotedRows rows s)) (entry (s .ticket) 0) (foldRows low 0 16 noBest) lowest (ltb (least (promotedRows rows s)) 16) refl (ltb 0 (s .count)) soft
 
 checks-below : (i j : ℕ) (a : Bool) → ltb i 16 ≡ a → (b c : Bool) → ltb j 16 ≡ c → (s : State) (r : Ticked) → VerdictBelow (r .verdict)
@@ -89,7 +89,7 @@ unfolding tickIn readied steppedIn
 tick-below rows s set d soft =
     let closing = closingIn rows s d in
     let t = closedBy s closing in
-    let unknown = least (bitAnd set (others (known (rows .n)))) in
+    let unknown = least (bitAnd set (others (known (rows .table .n)))) in
     let unready = least (bitAnd set (bitOr (t .«open») (others (t .rested)))) in
     checks-below unknown unready (ltb unknown 16) refl (cond d (ltb 16 (s .last)) false) (ltb unready 16) refl s (steppedIn rows t set soft closing)
     (chosen-below rows (releasedBy t set) soft, closing-below rows s d)

@@ -59,25 +59,25 @@ module _ (rows : Rows) (s : State) (S : Stored rows s) (set : ℕ) (small : set 
   I : Image st
   I = image-of rows s S
 
-  few : rows .n ≤ 16
+  few : rows .table .n ≤ 16
   few = S .kept .table .few
 
   -- 12
 
   abbrev unknownRows : ℕ
-  unknownRows = bitAnd set (others (known (rows .n)))
+  unknownRows = bitAnd set (others (known (rows .table .n)))
 
-  bit-unknown : (j : ℕ) → bit unknownRows j ≡ (bit set j && not (ltb j (rows .n)))
-  bit-unknown j = bit-minus set (known (rows .n)) small (known-lt (rows .n)) j ∙ rw (bit-known (rows .n) j few)
+  bit-unknown : (j : ℕ) → bit unknownRows j ≡ (bit set j && not (ltb j (rows .table .n)))
+  bit-unknown j = bit-minus set (known (rows .table .n)) small (known-lt (rows .table .n)) j ∙ rw (bit-known (rows .table .n) j few)
 
   unknown-is : firstOf (unknown (slotsOf rows s) set) 0 16 ≡ found (least unknownRows)
-  unknown-is = first-least unknownRows (unknown (slotsOf rows s) set) (λ j l. bit-unknown j ∙ rw (length-rows (slotAt rows s) 0 (rows .n), leb-ltb (rows .n) j))
+  unknown-is = first-least unknownRows (unknown (slotsOf rows s) set) (λ j l. bit-unknown j ∙ rw (length-rows (slotAt rows s) 0 (rows .table .n), leb-ltb (rows .table .n) j))
 
-  all-known : 16 ≤ least unknownRows → (j : ℕ) → rows .n ≤ j → bit set j ≡ false
+  all-known : 16 ≤ least unknownRows → (j : ℕ) → rows .table .n ≤ j → bit set j ≡ false
   all-known h j l = go (decLt j 16)
     where
       go : Dec (j < 16) → bit set j ≡ false
-      go (yes m) = sym (bit-unknown j ∙ rw (le-ltb j (rows .n) l) (and-yes (bit set j))) ∙ least-below unknownRows j (omega arith)
+      go (yes m) = sym (bit-unknown j ∙ rw (le-ltb j (rows .table .n) l) (and-yes (bit set j))) ∙ least-below unknownRows j (omega arith)
       go (no m) = bit-past 16 set j small (omega arith)
 
   -- 13
@@ -120,14 +120,14 @@ module _ (rows : Rows) (s : State) (S : Stored rows s) (set : ℕ) (small : set 
     abbrev unreadyRows : ℕ
     unreadyRows = bitAnd set (bitOr (t .«open») (others (t .rested)))
 
-    rested-is : (j : ℕ) → j < rows .n → rested (slotAt rows t j) ≡ bit (t .rested) j
+    rested-is : (j : ℕ) → j < rows .table .n → rested (slotAt rows t j) ≡ bit (t .rested) j
     rested-is j h = go (bit (t .rested) j) refl
       where
-        go : (b : Bool) → bit (t .rested) j ≡ b → eqb (entry (rows .t) j - cond b (entry (rows .t) j) (wrapped (t .clock) (entry (t .stamp) j))) 0 ≡ b
-        go true e = eq-eqb (entry (rows .t) j - entry (rows .t) j) 0 (omega arith)
-        go false e = let l = t-kept .times .young j h e in ne-eqb (entry (rows .t) j - wrapped (t .clock) (entry (t .stamp) j)) 0 (λ z. omega arith)
+        go : (b : Bool) → bit (t .rested) j ≡ b → eqb (entry (rows .table .t) j - cond b (entry (rows .table .t) j) (wrapped (t .clock) (entry (t .stamp) j))) 0 ≡ b
+        go true e = eq-eqb (entry (rows .table .t) j - entry (rows .table .t) j) 0 (omega arith)
+        go false e = let l = t-kept .times .young j h e in ne-eqb (entry (rows .table .t) j - wrapped (t .clock) (entry (t .stamp) j)) 0 (λ z. omega arith)
 
-    bit-unready : (j : ℕ) → j < rows .n → bit unreadyRows j ≡ unready set j (slotAt rows t j)
+    bit-unready : (j : ℕ) → j < rows .table .n → bit unreadyRows j ≡ unready set j (slotAt rows t j)
     bit-unready j h =
         rw (
           bit-and set (bitOr (t .«open») (others (t .rested))) j,
@@ -144,14 +144,14 @@ module _ (rows : Rows) (s : State) (S : Stored rows s) (set : ℕ) (small : set 
         go true false true = refl
         go true false false = refl
 
-    module _ (set-known : (j : ℕ) → rows .n ≤ j → bit set j ≡ false) where
+    module _ (set-known : (j : ℕ) → rows .table .n ≤ j → bit set j ≡ false) where
       unready-is : find (unready set) 0 (c .slots) ≡ found (least unreadyRows)
       unready-is =
           ap (find (unready set) 0) (sym (t-agrees .slots-is))
-          ∙ find-least (unready set) (slotAt rows t) unreadyRows (rows .n) few bit-unready (λ j h. rw (bit-and set (bitOr (t .«open») (others (t .rested))) j, set-known j h))
+          ∙ find-least (unready set) (slotAt rows t) unreadyRows (rows .table .n) few bit-unready (λ j h. rw (bit-and set (bitOr (t .«open») (others (t .rested))) j, set-known j h))
 
       module _ (all-ready : 16 ≤ least unreadyRows) where
-        ready : (j : ℕ) → j < rows .n → bit set j ≡ true → bit (t .«open») j ≡ false
+        ready : (j : ℕ) → j < rows .table .n → bit set j ≡ true → bit (t .«open») j ≡ false
         ready j h e = go (bit (t .«open») j) (rw (bit-and set (bitOr (t .«open») (others (t .rested))) j, e, bit-or (t .«open») (others (t .rested)) j) at (least-below unreadyRows j (omega (arith, few))))
           where
             go : (o : Bool) → (o || bit (others (t .rested)) j) ≡ false → o ≡ false
@@ -172,9 +172,9 @@ module _ (rows : Rows) (s : State) (S : Stored rows s) (set : ℕ) (small : set 
         unspent-all = rw u-slots (each-all (λ x. Good x × Unspent x) Unspent (λ k x. cond (bit set k) (released x) x) (λ k x. released-unspent (bit set k) x) 0 (c .slots)
             (all-both Good Unspent (c .slots) (close-good st d (I .good)) (close-unspent st d (I .runs))))
 
-        unspent : (i : ℕ) → i < rows .n → bit (u .«open») i ≡ true → entry (u .run) i < 65535
+        unspent : (i : ℕ) → i < rows .table .n → bit (u .«open») i ≡ true → entry (u .run) i < 65535
         unspent i h e =
-            let r = all-rows Unspent (slotAt rows u) 0 (rows .n) unspent-all i (omega arith) (omega arith) (entry (u .run) i) (rw e) in
+            let r = all-rows Unspent (slotAt rows u) 0 (rows .table .n) unspent-all i (omega arith) (omega arith) (entry (u .run) i) (rw e) in
             omega (arith, r, row-good rows s S i h, thin rows s S i h)
 
         queue-is : (k : ℕ) → u .count ≡ suc k → c .firms ≡ firmAt u 0 ∷ rowsFrom (firmAt u) 1 k
@@ -205,7 +205,7 @@ module _ (rows : Rows) (s : State) (S : Stored rows s) (set : ℕ) (small : set 
       after-14 wants true e = (refl, refl)
       after-14 wants false e = steps (ltb-false (least unreadyRows) 16 e) wants
 
-    after-13 : (wants b : Bool) → ((j : ℕ) → rows .n ≤ j → bit set j ≡ false)
+    after-13 : (wants b : Bool) → ((j : ℕ) → rows .table .n ≤ j → bit set j ≡ false)
         → Steps rows s
         (unless (orElse (cond b (some (refusal none-ran)) none) (Option·map (atRow not-ready) (find (unready set) 0 (c .slots)))) no-tick (rules.stepped (close st d) set wants))
         (cond b (record { verdict = NoneRan; state = s }) (readied rows s t set wants (closingIn rows s d)))

@@ -10,9 +10,10 @@ use borrow.Author.Tests.{le-ltb, leb-false, leb-true, lt-ltb}
 use Rattle.rules.specs.Station.{Last, hold}
 use Rattle.rules.specs.Tick.{bit, lastAt, passRows, passed, ranOnce}
 use Rattle.rules.proofs.Bools.{or-false}
+use Rattle.table.specs.Memory.{rowAt}
 use Rattle.state.specs.declared.Rows.{Rows}
 use Rattle.state.specs.declared.State.{State}
-use Rattle.state.specs.Meaning.{Kept, ageAt, entry, jobAt, rowAt, slotAt, slotsOf, wrapped}
+use Rattle.state.specs.Meaning.{Kept, ageAt, entry, jobAt, slotAt, slotsOf, wrapped}
 use Rattle.state.specs.Sets.{known}
 use Rattle.state.proofs.Bits.{bit-and, bit-known, bit-or}
 use Rattle.state.proofs.Positions.{each-rows}
@@ -37,40 +38,40 @@ age-held false T now stamp w young next = go (leb T (wrapped now stamp)) refl
     go false e = omega (arith, leb-false T (wrapped now stamp) e, young refl, next refl)
 
 -- every T has 16 bits
-module _ (rows : Rows) (s : State) (K : Kept rows s) (thin : (i : ℕ) → i < rows .n → entry (rows .t) i < 2 ^ 16) where
+module _ (rows : Rows) (s : State) (K : Kept rows s) (thin : (i : ℕ) → i < rows .table .n → entry (rows .table .t) i < 2 ^ 16) where
   abbrev ripe : ℕ → Bool
-  ripe = agedAt (rows .t) (s .stamp) (nextClock s)
+  ripe = agedAt (rows .table .t) (s .stamp) (nextClock s)
 
-  bit-rested : (i : ℕ) → bit (restedNext rows s) i ≡ (bit (s .rested) i || (bit (rowsThat ripe 16) i && ltb i (rows .n)))
-  bit-rested i = bit-or (s .rested) (bitAnd (rowsThat ripe 16) (known (rows .n))) i ∙ rw (bit-and (rowsThat ripe 16) (known (rows .n)) i, bit-known (rows .n) i (K .table .few))
+  bit-rested : (i : ℕ) → bit (restedNext rows s) i ≡ (bit (s .rested) i || (bit (rowsThat ripe 16) i && ltb i (rows .table .n)))
+  bit-rested i = bit-or (s .rested) (bitAnd (rowsThat ripe 16) (known (rows .table .n))) i ∙ rw (bit-and (rowsThat ripe 16) (known (rows .table .n)) i, bit-known (rows .table .n) i (K .table .few))
 
-  rested-in : (i : ℕ) → i < rows .n → bit (restedNext rows s) i ≡ (bit (s .rested) i || ripe i)
-  rested-in i h = bit-rested i ∙ rw (lt-ltb i (rows .n) h, bit-that ripe 16 i (omega (arith, K .table .few)), and-yes (ripe i))
+  rested-in : (i : ℕ) → i < rows .table .n → bit (restedNext rows s) i ≡ (bit (s .rested) i || ripe i)
+  rested-in i h = bit-rested i ∙ rw (lt-ltb i (rows .table .n) h, bit-that ripe 16 i (omega (arith, K .table .few)), and-yes (ripe i))
 
-  rested-past : (i : ℕ) → rows .n ≤ i → bit (restedNext rows s) i ≡ false
-  rested-past i h = bit-rested i ∙ rw (le-ltb i (rows .n) h, and-no (bit (rowsThat ripe 16) i)) (rw (K .times .rested-past i h))
+  rested-past : (i : ℕ) → rows .table .n ≤ i → bit (restedNext rows s) i ≡ false
+  rested-past i h = bit-rested i ∙ rw (le-ltb i (rows .table .n) h, and-no (bit (rowsThat ripe 16) i)) (rw (K .times .rested-past i h))
 
   rested-lt : restedNext rows s < 2 ^ 16
-  rested-lt = or-lt 16 (s .rested) (bitAnd (rowsThat ripe 16) (known (rows .n))) (K .times .rested-lt) (lt-of-le-of-lt (and-le-l (rowsThat ripe 16) (known (rows .n))) (that-lt ripe 16))
+  rested-lt = or-lt 16 (s .rested) (bitAnd (rowsThat ripe 16) (known (rows .table .n))) (K .times .rested-lt) (lt-of-le-of-lt (and-le-l (rowsThat ripe 16) (known (rows .table .n))) (that-lt ripe 16))
 
   stamp-is : (i : ℕ) → entry (upto (marked (restedNext rows s) 0) 16 (s .stamp)) i ≡ cond (bit (restedNext rows s) i) 0 (entry (s .stamp) i)
   stamp-is = stamped-at (s .stamp) (restedNext rows s) 0 (K .times .stamps) rested-lt
 
-  next : (i : ℕ) → i < rows .n → bit (s .rested) i ≡ false → wrapped (nextClock s) (entry (s .stamp) i) ≡ wrapped (s .clock) (entry (s .stamp) i) + 1
+  next : (i : ℕ) → i < rows .table .n → bit (s .rested) i ≡ false → wrapped (nextClock s) (entry (s .stamp) i) ≡ wrapped (s .clock) (entry (s .stamp) i) + 1
   next i h e = age-next (s .clock) (entry (s .stamp) i) (K .times .clock-lt) (K .times .stamp-lt i) (omega (arith, K .times .young i h e, thin i h))
 
-  age-is : (i : ℕ) → i < rows .n → ageAt rows (advanced rows s) i ≡ min (suc (ageAt rows s i)) (hold (rowAt rows i))
+  age-is : (i : ℕ) → i < rows .table .n → ageAt rows (advanced rows s) i ≡ min (suc (ageAt rows s i)) (hold (rowAt (rows .table) i))
   age-is i h =
       rw (stamp-is i, rested-in i h)
-      (age-held (bit (s .rested) i) (entry (rows .t) i) (nextClock s) (entry (s .stamp) i) (wrapped (s .clock) (entry (s .stamp) i)) (K .times .young i h) (next i h))
+      (age-held (bit (s .rested) i) (entry (rows .table .t) i) (nextClock s) (entry (s .stamp) i) (wrapped (s .clock) (entry (s .stamp) i)) (K .times .young i h) (next i h))
 
   -- a tick passes: s is the state before the runner's tick is counted, this one after it
   pub pass-slots : (before : State) (l : Last) → ((j : ℕ) → (ageAt rows s j ≡ ageAt rows before j) × (jobAt s j ≡ cond (lastAt l j) (ranOnce (jobAt before j)) (jobAt before j)))
       → slotsOf rows (advanced rows s) ≡ passRows l (slotsOf rows before)
   pass-slots before l same =
-      each-rows (λ k x. passed (lastAt l k) x) (slotAt rows before) (slotAt rows (advanced rows s)) 0 (rows .n) (λ j h.
-      let a : ageAt rows (advanced rows s) j ≡ min (suc (ageAt rows before j)) (hold (rowAt rows j)) = age-is j (omega arith) ∙ ap (λ x. min (suc x) (hold (rowAt rows j))) (same j .0) in
-      λ i. record { row = rowAt rows j; U = entry (rows .u) j; age = a i; job = same j .1 i })
+      each-rows (λ k x. passed (lastAt l k) x) (slotAt rows before) (slotAt rows (advanced rows s)) 0 (rows .table .n) (λ j h.
+      let a : ageAt rows (advanced rows s) j ≡ min (suc (ageAt rows before j)) (hold (rowAt (rows .table) j)) = age-is j (omega arith) ∙ ap (λ x. min (suc x) (hold (rowAt (rows .table) j))) (same j .0) in
+      λ i. record { row = rowAt (rows .table) j; U = entry (rows .u) j; age = a i; job = same j .1 i })
 
   stamp-lt : (b : Bool) (x : ℕ) → x < 2 ^ 32 → cond b 0 x < 2 ^ 32
   stamp-lt true x h = omega arith
@@ -89,7 +90,7 @@ module _ (rows : Rows) (s : State) (K : Kept rows s) (thin : (i : ℕ) → i < r
       stamp-lt = λ i. rw (stamp-is i) (stamp-lt (bit (restedNext rows s) i) (entry (s .stamp) i) (K .times .stamp-lt i));
       rested-past = rested-past;
       stamp-past = λ i h. rw (stamp-is i, rested-past i h) (K .times .stamp-past i h);
-      young = λ i h e. rw (stamp-is i, rested-in i h) (young (bit (s .rested) i) (ripe i) (entry (rows .t) i) (entry (s .stamp) i) refl (sym (rested-in i h) ∙ e));
+      young = λ i h e. rw (stamp-is i, rested-in i h) (young (bit (s .rested) i) (ripe i) (entry (rows .table .t) i) (entry (s .stamp) i) refl (sym (rested-in i h) ∙ e));
       stamp-blank = λ i e. rw (stamp-is i, e);
     };
     jobs = K .jobs;

@@ -58,49 +58,49 @@ better-is rank i b x h e = any-yet (ltb (b .rank) 256) refl
         lower-none = rw (lt-ltb rank 256 h)
 
 -- each U is at most T
-module _ (rows : Rows) (s : State) (K : Kept rows s) (U-le : (i : ℕ) → i < rows .n → entry (rows .u) i ≤ entry (rows .t) i) where
+module _ (rows : Rows) (s : State) (K : Kept rows s) (U-le : (i : ℕ) → i < rows .table .n → entry (rows .u) i ≤ entry (rows .table .t) i) where
   -- the upper band
 
-  promoted-is : (j : ℕ) → j < rows .n → bit (promotedRows rows s) j ≡ promoted (slotAt rows s j)
+  promoted-is : (j : ℕ) → j < rows .table .n → bit (promotedRows rows s) j ≡ promoted (slotAt rows s j)
   promoted-is j h =
       let p = agedAt (rows .u) (s .stamp) (s .clock) in
       rw (bit-and (s .«open») (bitOr (s .rested) (rowsThat p 16)) j, bit-or (s .rested) (rowsThat p 16) j, bit-that p 16 j (omega (arith, K .table .few)))
       (go (bit (s .«open») j) (bit (s .rested) j))
     where
       go : (o r : Bool) → (o && (r || leb (entry (rows .u) j) (wrapped (s .clock) (entry (s .stamp) j))))
-          ≡ (isOpen (cond o (opened (entry (s .run) j)) closed) && leb (entry (rows .u) j) (cond r (entry (rows .t) j) (wrapped (s .clock) (entry (s .stamp) j))))
-      go true true = sym (le-leb (entry (rows .u) j) (entry (rows .t) j) (U-le j h))
+          ≡ (isOpen (cond o (opened (entry (s .run) j)) closed) && leb (entry (rows .u) j) (cond r (entry (rows .table .t) j) (wrapped (s .clock) (entry (s .stamp) j))))
+      go true true = sym (le-leb (entry (rows .u) j) (entry (rows .table .t) j) (U-le j h))
       go true false = refl
       go false r = refl
 
   upper-is : find (λ k x. promoted x) 0 (slotsOf rows s) ≡ found (least (promotedRows rows s))
-  upper-is = find-least (λ k x. promoted x) (slotAt rows s) (promotedRows rows s) (rows .n) (K .table .few) promoted-is
+  upper-is = find-least (λ k x. promoted x) (slotAt rows s) (promotedRows rows s) (rows .table .n) (K .table .few) promoted-is
       (λ j h. rw (bit-and (s .«open») (bitOr (s .rested) (rowsThat (agedAt (rows .u) (s .stamp) (s .clock)) 16)) j, K .jobs .open-past j h))
 
   -- the lower band, where no job is promoted
 
   module _ (none-up : 16 ≤ least (promotedRows rows s)) where
-    unpromoted-is : (j : ℕ) → j < rows .n → unpromoted (slotAt rows s j) ≡ bit (s .«open») j
+    unpromoted-is : (j : ℕ) → j < rows .table .n → unpromoted (slotAt rows s j) ≡ bit (s .«open») j
     unpromoted-is j h = go (bit (s .«open») j) (leb (entry (rows .u) j) (ageAt rows s j)) (sym (promoted-is j h) ∙ least-below (promotedRows rows s) j (omega (arith, K .table .few)))
       where
         go : (o p : Bool) → (isOpen (cond o (opened (entry (s .run) j)) closed) && p) ≡ false → (isOpen (cond o (opened (entry (s .run) j)) closed) && not p) ≡ o
         go true p e = rw e
         go false p e = refl
 
-    low-is : (j : ℕ) → j < rows .n → (b : Best) → cond (unpromoted (slotAt rows s j)) (rules.better (asBest b) j (slotAt rows s j)) (asBest b) ≡ asBest (lowAt (rows .rank) (s .«open») j b)
+    low-is : (j : ℕ) → j < rows .table .n → (b : Best) → cond (unpromoted (slotAt rows s j)) (rules.better (asBest b) j (slotAt rows s j)) (asBest b) ≡ asBest (lowAt (rows .table .rank) (s .«open») j b)
     low-is j h b = rw (unpromoted-is j h) (go (bit (s .«open») j))
       where
-        go : (o : Bool) → cond o (rules.better (asBest b) j (slotAt rows s j)) (asBest b) ≡ asBest (cond o (better (entry (rows .rank) j) j b) b)
-        go true = better-is (entry (rows .rank) j) j b (slotAt rows s j) (K .table .rank-lt j) refl
+        go : (o : Bool) → cond o (rules.better (asBest b) j (slotAt rows s j)) (asBest b) ≡ asBest (cond o (better (entry (rows .table .rank) j) j b) b)
+        go true = better-is (entry (rows .table .rank) j) j b (slotAt rows s j) (K .table .rank-lt j) refl
         go false = refl
 
-    lowest-is : (i k : ℕ) (b : Best) → i + k ≤ rows .n → lowest (asBest b) i (rowsFrom (slotAt rows s) i k) ≡ asBest (foldRows (lowAt (rows .rank) (s .«open»)) i k b)
+    lowest-is : (i k : ℕ) (b : Best) → i + k ≤ rows .table .n → lowest (asBest b) i (rowsFrom (slotAt rows s) i k) ≡ asBest (foldRows (lowAt (rows .table .rank) (s .«open»)) i k b)
     unfolding rowsFrom foldRows
     lowest-is i zero b h = refl
-    lowest-is i (suc k) b h = ap (λ best. lowest best (suc i) (rowsFrom (slotAt rows s) (suc i) k)) (low-is i (omega arith) b) ∙ lowest-is (suc i) k (lowAt (rows .rank) (s .«open») i b) (omega arith)
+    lowest-is i (suc k) b h = ap (λ best. lowest best (suc i) (rowsFrom (slotAt rows s) (suc i) k)) (low-is i (omega arith) b) ∙ lowest-is (suc i) k (lowAt (rows .table .rank) (s .«open») i b) (omega arith)
 
-    lower-is : lowest none 0 (slotsOf rows s) ≡ asBest (foldRows (lowAt (rows .rank) (s .«open»)) 0 16 noBest)
-    lower-is = lowest-is 0 (rows .n) noBest (omega arith) ∙ ap asBest (sym (fold-short (lowAt (rows .rank) (s .«open»)) (rows .n) 0 16 noBest (K .table .few) (λ j h b. rw (K .jobs .open-past j (omega arith)))))
+    lower-is : lowest none 0 (slotsOf rows s) ≡ asBest (foldRows (lowAt (rows .table .rank) (s .«open»)) 0 16 noBest)
+    lower-is = lowest-is 0 (rows .table .n) noBest (omega arith) ∙ ap asBest (sym (fold-short (lowAt (rows .table .rank) (s .«open»)) (rows .table .n) 0 16 noBest (K .table .few) (λ j h b. rw (K .jobs .open-past j (omega arith)))))
 
   -- all of it
 
@@ -116,15 +116,15 @@ module _ (rows : Rows) (s : State) (K : Kept rows s) (U-le : (i : ℕ) → i < r
   choose-refines wants = rw upper-is (go (ltb (least (promotedRows rows s)) 16) refl)
     where
       others : 16 ≤ least (promotedRows rows s) → (k : ℕ) (w : Bool)
-          → cond (ltb 0 k) (Firm (entry (s .ticket) 0)) (cond w Soft (lowerOf (foldRows (lowAt (rows .rank) (s .«open»)) 0 16 noBest)))
+          → cond (ltb 0 k) (Firm (entry (s .ticket) 0)) (cond w Soft (lowerOf (foldRows (lowAt (rows .table .rank) (s .«open»)) 0 16 noBest)))
           ≡ runnerOf (Option·getD (orElse (firmRunner (rowsFrom (firmAt s) 0 k)) (orElse (softRunner w) (Option·map (λ (best : ℕ × ℕ). hard (best .0) lower) (lowest none 0 (slotsOf rows s))))) idle)
       others h (suc k) w = rw (lt-ltb 0 (suc k) (omega arith))
       others h zero true = refl
-      others h zero false = rw (lower-is h) (lower-runner (foldRows (lowAt (rows .rank) (s .«open»)) 0 16 noBest))
+      others h zero false = rw (lower-is h) (lower-runner (foldRows (lowAt (rows .table .rank) (s .«open»)) 0 16 noBest))
 
       go : (t : Bool) → ltb (least (promotedRows rows s)) 16 ≡ t
           → cond t (Hard (least (promotedRows rows s)) Upper)
-          (cond (ltb 0 (s .count)) (Firm (entry (s .ticket) 0)) (cond wants Soft (lowerOf (foldRows (lowAt (rows .rank) (s .«open»)) 0 16 noBest))))
+          (cond (ltb 0 (s .count)) (Firm (entry (s .ticket) 0)) (cond wants Soft (lowerOf (foldRows (lowAt (rows .table .rank) (s .«open»)) 0 16 noBest))))
           ≡ runnerOf (Option·getD (orElse (Option·map (λ k. hard k upper) (cond t (some (least (promotedRows rows s))) none))
           (orElse (firmRunner (firmsOf s)) (orElse (softRunner wants) (Option·map (λ (best : ℕ × ℕ). hard (best .0) lower) (lowest none 0 (slotsOf rows s)))))) idle)
       go true e = refl

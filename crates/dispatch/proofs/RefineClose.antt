@@ -60,7 +60,7 @@ module _ (rows : Rows) (s : State) (K : Kept rows s) (i : ℕ) (h : i < 16) wher
   slot-shut j = rw (lt-ltb i 16 h) (rw (bit-shut j, run-shut j, job-shut (bit (s .«open») j) (eqb j i) (entry (s .run) j)) (shut-slot (eqb j i) (slotAt rows s j)))
 
   shut-slots : slotsOf rows (shutRow s i) ≡ shutAt i (slotsOf rows s)
-  shut-slots = each-rows (λ k x. cond (eqb k i) (shut x) x) (slotAt rows s) (slotAt rows (shutRow s i)) 0 (rows .n) (λ j l. slot-shut j)
+  shut-slots = each-rows (λ k x. cond (eqb k i) (shut x) x) (slotAt rows s) (slotAt rows (shutRow s i)) 0 (rows .table .n) (λ j l. slot-shut j)
 
   open-off : (o e : Bool) → o ≡ false → (o && not e) ≡ false
   open-off o e q = rw q
@@ -155,11 +155,11 @@ module _ (rows : Rows) (s : State) (S : Stored rows s) where
   open-job true r q e = refl
   open-job false r q e = let z : _≡_ {A = ℕ} 0 1 = cc in absurd (omega arith)
 
-  row-full : ltb (s .last) 16 ≡ true → fullAt (s .last) (slotsOf rows s) ≡ not (ltb (entry (s .run) (s .last)) (entry (rows .c) (s .last)))
+  row-full : ltb (s .last) 16 ≡ true → fullAt (s .last) (slotsOf rows s) ≡ not (ltb (entry (s .run) (s .last)) (entry (rows .table .c) (s .last)))
   row-full e =
-      let (l, (r, q)) = holds-rows HasRun (slotAt rows s) (s .last) 0 (rows .n) (has-run e) in
-      any-rows (λ x. fullyRun (x .row .C) (x .job)) (slotAt rows s) (s .last) 0 (rows .n) (omega arith) l
-      ∙ rw (open-job (bit (s .«open») (s .last)) (entry (s .run) (s .last)) (suc r) q) (leb-ltb (entry (rows .c) (s .last)) (entry (s .run) (s .last)))
+      let (l, (r, q)) = holds-rows HasRun (slotAt rows s) (s .last) 0 (rows .table .n) (has-run e) in
+      any-rows (λ x. fullyRun (x .row .C) (x .job)) (slotAt rows s) (s .last) 0 (rows .table .n) (omega arith) l
+      ∙ rw (open-job (bit (s .«open») (s .last)) (entry (s .run) (s .last)) (suc r) q) (leb-ltb (entry (rows .table .c) (s .last)) (entry (s .run) (s .last)))
 
   -- the first firm job
 
@@ -216,10 +216,10 @@ module _ (rows : Rows) (s : State) (S : Stored rows s) where
       row : (b : Bool) → ltb (s .last) 16 ≡ b
           → Closes rows s
           (cond b
-          (cond d (HardDone (s .last)) (cond (ltb (entry (s .run) (s .last)) (entry (rows .c) (s .last))) Nothing (HardSpent (s .last))))
+          (cond d (HardDone (s .last)) (cond (ltb (entry (s .run) (s .last)) (entry (rows .table .c) (s .last))) Nothing (HardSpent (s .last))))
           (cond (eqb (s .last) 16)
           (cond d (FirmDone (first .ticket)) (cond (ltb (entry (s .used) 0) (entry (s .budget) 0)) Nothing (FirmSpent (first .ticket))))
           Nothing))
           (closeLast st d (cond b (row-at (s .last)) (cond (eqb (s .last) 16) (firm-of (first .ticket)) nobody)))
-      row true e = rw (row-full e) (row-closes (ltb-true (s .last) 16 e) d (ltb (entry (s .run) (s .last)) (entry (rows .c) (s .last))))
+      row true e = rw (row-full e) (row-closes (ltb-true (s .last) 16 e) d (ltb (entry (s .run) (s .last)) (entry (rows .table .c) (s .last))))
       row false e = firm (eqb (s .last) 16) e refl

@@ -8,9 +8,10 @@ use lib.Bits.{bitAnd, and-le-l, or-lt}
 use Rattle.rules.specs.Station.{closed, hold, opened}
 use Rattle.rules.specs.Tick.{bit, release, released}
 use Rattle.rules.proofs.Bools.{and-true, or-false}
+use Rattle.table.specs.Memory.{rowAt}
 use Rattle.state.specs.declared.Rows.{Rows}
 use Rattle.state.specs.declared.State.{State}
-use Rattle.state.specs.Meaning.{Kept, entry, rowAt, slotAt, slotsOf, wrapped}
+use Rattle.state.specs.Meaning.{Kept, entry, slotAt, slotsOf, wrapped}
 use Rattle.state.specs.Sets.{others}
 use Rattle.state.proofs.Bits.{bit-or}
 use Rattle.state.proofs.Positions.{each-rows}
@@ -23,35 +24,35 @@ age-now : (clock : ℕ) → clock < 2 ^ 32 → wrapped clock clock ≡ 0
 age-now clock h = omega arith
 
 -- the rows of the set are known, and have no job open; no T is 0
-module _ (rows : Rows) (s : State) (K : Kept rows s) (set : ℕ) (small : set < 2 ^ 16) (known : (i : ℕ) → rows .n ≤ i → bit set i ≡ false)
-    (ready : (i : ℕ) → i < rows .n → bit set i ≡ true → bit (s .«open») i ≡ false) (positive : (i : ℕ) → i < rows .n → 1 ≤ entry (rows .t) i) where
+module _ (rows : Rows) (s : State) (K : Kept rows s) (set : ℕ) (small : set < 2 ^ 16) (known : (i : ℕ) → rows .table .n ≤ i → bit set i ≡ false)
+    (ready : (i : ℕ) → i < rows .table .n → bit set i ≡ true → bit (s .«open») i ≡ false) (positive : (i : ℕ) → i < rows .table .n → 1 ≤ entry (rows .table .t) i) where
   stamp-is : (i : ℕ) → entry (upto (marked set (s .clock)) 16 (s .stamp)) i ≡ cond (bit set i) (s .clock) (entry (s .stamp) i)
   stamp-is = stamped-at (s .stamp) set (s .clock) (K .times .stamps) small
 
   rested-is : (i : ℕ) → bit (bitAnd (s .rested) (others set)) i ≡ (bit (s .rested) i && not (bit set i))
   rested-is = bit-minus (s .rested) set (K .times .rested-lt) small
 
-  slot-is : (j : ℕ) → j < rows .n → slotAt rows (releasedBy s set) j ≡ cond (bit set j) (released (slotAt rows s j)) (slotAt rows s j)
+  slot-is : (j : ℕ) → j < rows .table .n → slotAt rows (releasedBy s set) j ≡ cond (bit set j) (released (slotAt rows s j)) (slotAt rows s j)
   slot-is j h = rw (bit-or (s .«open») set j, rested-is j, stamp-is j) (go (bit set j) refl)
     where
       go : (b : Bool) → bit set j ≡ b
           → record {
-            row = rowAt rows j;
+            row = rowAt (rows .table) j;
             U = entry (rows .u) j;
-            age = cond (bit (s .rested) j && not b) (hold (rowAt rows j)) (wrapped (s .clock) (cond b (s .clock) (entry (s .stamp) j)));
+            age = cond (bit (s .rested) j && not b) (hold (rowAt (rows .table) j)) (wrapped (s .clock) (cond b (s .clock) (entry (s .stamp) j)));
             job = cond (bit (s .«open») j || b) (opened (entry (s .run) j)) closed;
           } ≡ cond b (released (slotAt rows s j)) (slotAt rows s j)
       go true e = rw (and-no (bit (s .rested) j), age-now (s .clock) (K .times .clock-lt), ready j h e, K .jobs .run-blank j (ready j h e))
       go false e = rw (and-yes (bit (s .rested) j), or-no (bit (s .«open») j))
 
   pub release-refines : slotsOf rows (releasedBy s set) ≡ release set (slotsOf rows s)
-  release-refines = each-rows (λ k x. cond (bit set k) (released x) x) (slotAt rows s) (slotAt rows (releasedBy s set)) 0 (rows .n) (λ j h. slot-is j (omega arith))
+  release-refines = each-rows (λ k x. cond (bit set k) (released x) x) (slotAt rows s) (slotAt rows (releasedBy s set)) 0 (rows .table .n) (λ j h. slot-is j (omega arith))
 
   stamp-lt : (b : Bool) (x : ℕ) → x < 2 ^ 32 → cond b (s .clock) x < 2 ^ 32
   stamp-lt true x h = K .times .clock-lt
   stamp-lt false x h = h
 
-  young : (j : ℕ) → j < rows .n → (b r : Bool) → bit (s .rested) j ≡ r → (r && not b) ≡ false → wrapped (s .clock) (cond b (s .clock) (entry (s .stamp) j)) < entry (rows .t) j
+  young : (j : ℕ) → j < rows .table .n → (b r : Bool) → bit (s .rested) j ≡ r → (r && not b) ≡ false → wrapped (s .clock) (cond b (s .clock) (entry (s .stamp) j)) < entry (rows .table .t) j
   young j h true r q e = rw (age-now (s .clock) (K .times .clock-lt)) (positive j h)
   young j h false true q e = absurd (true≢false e)
   young j h false false q e = K .times .young j h q

@@ -38,8 +38,8 @@ pass-others : (t : ℕ) (fs : List Firm) → All (Other t) fs → passFirms (fir
 pass-others t [] o = refl
 pass-others t (f ∷ fs) (o, os) = rw (ne-eqb (f .ticket) t o) (ap (λ l. f ∷ l) (pass-others t fs os))
 
-module _ (rows : Rows) (s : State) (K : Kept rows s) (thin : (i : ℕ) → i < rows .n → entry (rows .t) i < 2 ^ 16)
-    (unspent : (i : ℕ) → i < rows .n → bit (s .«open») i ≡ true → entry (s .run) i < 65535)
+module _ (rows : Rows) (s : State) (K : Kept rows s) (thin : (i : ℕ) → i < rows .table .n → entry (rows .table .t) i < 2 ^ 16)
+    (unspent : (i : ℕ) → i < rows .table .n → bit (s .«open») i ≡ true → entry (s .run) i < 65535)
     (queue : (k : ℕ) → s .count ≡ suc k → (entry (s .used) 0 < 65535) × All (Other (entry (s .ticket) 0)) (rowsFrom (firmAt s) 1 k)) where
   -- c: the station that the rules' steps 1 and 2 leave, but for its slots; r runs for one tick
   abbrev Runs : Station → Runner → Type 0
@@ -55,7 +55,7 @@ module _ (rows : Rows) (s : State) (K : Kept rows s) (thin : (i : ℕ) → i < r
 
     -- a row runs
 
-    module _ (i : ℕ) (known : i < rows .n) (is-open : bit (s .«open») i ≡ true) where
+    module _ (i : ℕ) (known : i < rows .table .n) (is-open : bit (s .«open») i ≡ true) where
       abbrev after : State
       after = reworked s (s .«open») i (set (s .run) i (bumped (entry (s .run) i))) (s .count) (s .budget) (s .used) (s .ticket)
 
@@ -161,8 +161,8 @@ module _ (rows : Rows) (s : State) (K : Kept rows s) (thin : (i : ℕ) → i < r
 
     -- all of it
 
-    row-open : (i : ℕ) → Holds IsOpen i 0 (slotsOf rows s) → (i < rows .n) × (bit (s .«open») i ≡ true)
-    row-open i H = let (h, o) = holds-rows IsOpen (slotAt rows s) i 0 (rows .n) H in (omega arith, go (bit (s .«open») i) o)
+    row-open : (i : ℕ) → Holds IsOpen i 0 (slotsOf rows s) → (i < rows .table .n) × (bit (s .«open») i ≡ true)
+    row-open i H = let (h, o) = holds-rows IsOpen (slotAt rows s) i 0 (rows .table .n) H in (omega arith, go (bit (s .«open») i) o)
       where
         go : (b : Bool) → isOpen (cond b (opened (entry (s .run) i)) closed) ≡ true → b ≡ true
         go true e = refl

@@ -13,8 +13,8 @@ use Rattle.dispatch.specs.declared.Ticked.{Ticked}
 use Rattle.dispatch.specs.declared.Verdict.the-variants.{Unknown, NoneRan, NotReady}
 use Rattle.dispatch.specs.Steps.{closedBy, closingIn, readied, steppedIn, tickIn}
 
-module _ (rows : Rows) (s : State) (set : ℕ) (d soft : Bool) (k unknown : ℕ) (ek : k ≡ known (rows .n)) (eu : unknown ≡ least (bitAnd set (others k))) where
-  unknown-is : unknown ≡ least (bitAnd set (others (known (rows .n))))
+module _ (rows : Rows) (s : State) (set : ℕ) (d soft : Bool) (k unknown : ℕ) (ek : k ≡ known (rows .table .n)) (eu : unknown ≡ least (bitAnd set (others k))) where
+  unknown-is : unknown ≡ least (bitAnd set (others (known (rows .table .n))))
   unknown-is = eu ∙ rw ek
 
   pub tick-unknown : unknown < 16 → record { verdict = Unknown unknown; state = s } ≡ tickIn rows s set d soft

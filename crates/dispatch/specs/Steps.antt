@@ -57,7 +57,7 @@ reworked s o last run count budget used ticket = record {
 abbrev pub closingIn : Rows → State → Bool → Closing
 closingIn rows s d =
     cond (ltb (s .last) 16)
-    (cond d (HardDone (s .last)) (cond (ltb (entry (s .run) (s .last)) (entry (rows .c) (s .last))) Nothing (HardSpent (s .last))))
+    (cond d (HardDone (s .last)) (cond (ltb (entry (s .run) (s .last)) (entry (rows .table .c) (s .last))) Nothing (HardSpent (s .last))))
     (cond (eqb (s .last) 16)
     (cond d (FirmDone (entry (s .ticket) 0)) (cond (ltb (entry (s .used) 0) (entry (s .budget) 0)) Nothing (FirmSpent (entry (s .ticket) 0))))
     Nothing)
@@ -105,7 +105,7 @@ chosenIn rows s soft =
     let upper = least (promotedRows rows s) in
     cond (ltb upper 16) (Hard upper Upper)
     (cond (ltb 0 (s .count)) (Firm (entry (s .ticket) 0))
-    (cond soft Soft (lowerOf (foldRows (lowAt (rows .rank) (s .«open»)) 0 16 noBest))))
+    (cond soft Soft (lowerOf (foldRows (lowAt (rows .table .rank) (s .«open»)) 0 16 noBest))))
 
 -- 4. Run
 
@@ -138,7 +138,7 @@ nextClock s = (s .clock + 1) % 2 ^ 32
 
 -- the rows rested at the next tick
 abbrev pub restedNext : Rows → State → ℕ
-restedNext rows s = bitOr (s .rested) (bitAnd (rowsThat (agedAt (rows .t) (s .stamp) (nextClock s)) 16) (known (rows .n)))
+restedNext rows s = bitOr (s .rested) (bitAnd (rowsThat (agedAt (rows .table .t) (s .stamp) (nextClock s)) 16) (known (rows .table .n)))
 
 -- the clock advances: marks and stamps follow
 abbrev pub advanced : Rows → State → State
@@ -163,7 +163,7 @@ readied rows s t set soft closing =
 -- 12, 13, 14, and the steps; a refusal leaves the state as it was
 unfoldable pub tickIn : Rows → State → ℕ → Bool → Bool → Ticked
 tickIn rows s set d soft =
-    let unknown = least (bitAnd set (others (known (rows .n)))) in
+    let unknown = least (bitAnd set (others (known (rows .table .n)))) in
     let closing = closingIn rows s d in
     cond (ltb unknown 16) (record { verdict = Unknown unknown; state = s })
     (cond (cond d (ltb 16 (s .last)) false) (record { verdict = NoneRan; state = s })

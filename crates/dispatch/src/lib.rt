@@ -54,7 +54,7 @@ pub struct Ticked {
 pub fn tick(rows: Rows, s: State, set: u16, done: bool, soft: bool) -> Ticked
     ensures { λ r. ⌜ r ≡ tickIn rows s set done soft ⌝ }
 {
-    let known = state::known_rows(rows.n);
+    let known = state::known_rows(rows.table.n);
     let unknown = sets::lowest(set & !known);
     if unknown < 16 {
         return Ticked {

@@ -22,7 +22,7 @@ pub fn closing_of(rows: Rows, s: State, done: bool) -> Closing
             return Closing::HardDone(last);
         }
         let run = s.run;
-        let c = rows.c;
+        let c = rows.table.c;
         if run[last] < c[last] {
             return Closing::Nothing;
         }
@@ -150,7 +150,7 @@ fn choose(rows: Rows, s: State, soft: bool) -> Runner
     if soft {
         return Runner::Soft;
     }
-    let rank = rows.rank;
+    let rank = rows.table.rank;
     let best = sets::lowest_rank(rank, s.open);
     if best.rank < 256 {
         return Runner::Hard(best.row, Band::Lower);
@@ -213,9 +213,9 @@ fn advance(rows: Rows, s: State) -> State
     ensures { λ r. ⌜ r ≡ advanced rows s ⌝ }
 {
     let clock = std::num::wrapping_add_u32(s.clock, 1);
-    let t = rows.t;
+    let t = rows.table.t;
     let stamp = s.stamp;
-    let rested = s.rested | sets::aged_rows(t, stamp, clock) & state::known_rows(rows.n);
+    let rested = s.rested | sets::aged_rows(t, stamp, clock) & state::known_rows(rows.table.n);
     let stamps = sets::stamped(stamp, rested, 0);
     let mut r = s;
     r.stamp = stamps;

@@ -29,13 +29,13 @@ row-le : (o : Bool) (C T U run age d : ℕ) → C < 65536 → d < 65536 → rowC
 row-le true C T U run age d h l = omega (arith, future-le C T (T - age) U d h d)
 row-le false C T U run age d h l = omega (arith, future-le C T (T - age) U d h d)
 
-pub claim-le : (rows : Rows) (s : State) (d i : ℕ) → entry (rows .c) i < 65536 → d < 65536 → claimAt rows s d i ≤ rowMost
+pub claim-le : (rows : Rows) (s : State) (d i : ℕ) → entry (rows .table .c) i < 65536 → d < 65536 → claimAt rows s d i ≤ rowMost
 claim-le rows s d i =
-    row-le (bit (s .«open») i) (entry (rows .c) i) (entry (rows .t) i) (entry (rows .u) i) (entry (s .run) i) (ageAt rows s i) d
+    row-le (bit (s .«open») i) (entry (rows .table .c) i) (entry (rows .table .t) i) (entry (rows .u) i) (entry (s .run) i) (ageAt rows s i) d
 
-pub claims-le : (rows : Rows) (s : State) (d : ℕ) → ((i : ℕ) → entry (rows .c) i < 65536) → d < 65536 → claimsOf rows s d ≤ 16 * rowMost
+pub claims-le : (rows : Rows) (s : State) (d : ℕ) → ((i : ℕ) → entry (rows .table .c) i < 65536) → d < 65536 → claimsOf rows s d ≤ 16 * rowMost
 unfolding claimsOf
-claims-le rows s d h l = omega (arith, sum-le (claimAt rows s d) rowMost (min (rows .n) 16) (λ i. claim-le rows s d i (h i) l))
+claims-le rows s d h l = omega (arith, sum-le (claimAt rows s d) rowMost (min (rows .table .n) 16) (λ i. claim-le rows s d i (h i) l))
 
 pub unrun-le : (s : State) → s .count ≤ 8 → ((i : ℕ) → entry (s .budget) i < 65536) → unrunOf s ≤ 8 * 65535
 unfolding unrunOf

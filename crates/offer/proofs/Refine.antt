@@ -33,18 +33,18 @@ claim-is : (rows : Rows) (s : State) (d i : ℕ) → openClaim (slotAt rows s i)
 claim-is rows s d i = go (bit (s .«open») i)
   where
     go : (o : Bool)
-        → jobClaim (entry (rows .c) i) (slotAt rows s i .U - ageAt rows s i) (cond o (opened (entry (s .run) i)) closed) d + futureClaim (slotAt rows s i) d
-        ≡ cond o (openOf (entry (rows .c) i) (entry (s .run) i) (entry (rows .u) i) (ageAt rows s i) d) 0 + futureClaim (slotAt rows s i) d
+        → jobClaim (entry (rows .table .c) i) (slotAt rows s i .U - ageAt rows s i) (cond o (opened (entry (s .run) i)) closed) d + futureClaim (slotAt rows s i) d
+        ≡ cond o (openOf (entry (rows .table .c) i) (entry (s .run) i) (entry (rows .u) i) (ageAt rows s i) d) 0 + futureClaim (slotAt rows s i) d
     go true = refl
     go false = refl
 
-claims-are : (rows : Rows) (s : State) (d : ℕ) → rows .n ≤ 16 → claimsOf rows s d ≡ claims (slotsOf rows s) d
+claims-are : (rows : Rows) (s : State) (d : ℕ) → rows .table .n ≤ 16 → claimsOf rows s d ≡ claims (slotsOf rows s) d
 unfolding claimsOf
 claims-are rows s d h =
-    let e : min (rows .n) 16 ≡ rows .n = omega arith in
+    let e : min (rows .table .n) 16 ≡ rows .table .n = omega arith in
     ap (λ n. sum n (claimAt rows s d)) e
-    ∙ ap (sum (rows .n)) (fun-ext (λ i. sym (claim-is rows s d i)))
-    ∙ sym (total-rows (λ x. openClaim x d + futureClaim x d) (slotAt rows s) (rows .n))
+    ∙ ap (sum (rows .table .n)) (fun-ext (λ i. sym (claim-is rows s d i)))
+    ∙ sym (total-rows (λ x. openClaim x d + futureClaim x d) (slotAt rows s) (rows .table .n))
 
 unrun-is : (s : State) → unrunOf s ≡ unrun (firmsOf s)
 unfolding unrunOf

@@ -38,11 +38,11 @@ rowClaim o C T U run age d = cond o (openOf C run U age d) 0 + futureOf C T (T -
 -- of the row at i
 abbrev pub claimAt : Rows → State → ℕ → ℕ → ℕ
 claimAt rows s d i =
-    rowClaim (bit (s .«open») i) (entry (rows .c) i) (entry (rows .t) i) (entry (rows .u) i) (entry (s .run) i) (ageAt rows s i) d
+    rowClaim (bit (s .«open») i) (entry (rows .table .c) i) (entry (rows .table .t) i) (entry (rows .u) i) (entry (s .run) i) (ageAt rows s i) d
 
 -- of all rows
 unfoldable pub claimsOf : Rows → State → ℕ → ℕ
-claimsOf rows s d = sum (min (rows .n) 16) (claimAt rows s d)
+claimsOf rows s d = sum (min (rows .table .n) 16) (claimAt rows s d)
 
 -- the firm jobs
 

@@ -9,7 +9,7 @@ use state::State;
 pub fn claims(rows: Rows, s: State, d: u16) -> u64
     ensures { λ r. ⌜ r ≡ claimsOf rows s d ⌝ }
 {
-    let n = at_most_16(rows.n);
+    let n = at_most_16(rows.table.n);
     let mut sum: u64 = 0;
     let mut i: usize = 0;
     while i < n {
@@ -32,9 +32,10 @@ fn claim_at(rows: Rows, s: State, d: u16, i: usize) -> u64
 {
     let open = state::has(s.open as u32, i);
     let rested = state::has(s.rested as u32, i);
-    let t = rows.t[i];
+    let tb = rows.table;
+    let t = tb.t[i];
     let a = age(rested, t, s.clock, s.stamp[i]);
-    row_claim(open, rows.c[i], t, rows.u[i], s.run[i], a, d)
+    row_claim(open, tb.c[i], t, rows.u[i], s.run[i], a, d)
 }
 
 fn age(rested: bool, t: u16, clock: u32, stamp: u32) -> u32

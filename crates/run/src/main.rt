@@ -62,7 +62,7 @@ fn run_files<'a>(table: &'a [u8], events: &'a [u8]) {
 
 // The events in order, from the fresh state: to their end, or to the first that is no event.
 fn run_events<'a>(table: &'a [u8], events: &'a [u8], rows: Rows) {
-    let mut state = state::fresh_state(rows.n);
+    let mut state = state::fresh_state(rows.table.n);
     let mut at: usize = 0;
     loop {
         match event::event_at(events, at) {

@@ -54,7 +54,7 @@ row-claim-requires c κs = search needs
 returns : tie.Need-returns
 returns c =
     let aged = c .before .before .before .before in
-    let found = aged .before .before .before in
+    let found = aged .before .before .before .before in
     rw (c .row-claim .ensures, aged .age .ensures, found .has2 .ensures, found .before .has .ensures)
 
 pub claim-at-spec : {M : Type 1} → statement M

@@ -50,7 +50,7 @@ unfolding claimsOf
 returns c =
     let b = c .before in
     let a = b .before .before .args in
-    let e : b .loop .i ≡ min (a .rows .n) 16 = omega arith in
+    let e : b .loop .i ≡ min (a .rows .table .n) 16 = omega arith in
     b .loop .inv .2 ∙ ap (λ n. sum n (claimAt (a .rows) (a .s) (a .d))) e
 
 pub claims-spec : {M : Type 1} → statement M
