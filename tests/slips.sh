@@ -70,9 +70,9 @@ slip shown_header_only programs reference/src/event.rs 'refuse(20, size)' 'refus
 
 # Blocks.
 slip promotion_up_to_d blocks reference/src/block.rs 'u128::from(hard.row.d - hard.row.c)' 'u128::from(hard.row.d)'
-slip reserved_ignored blocks reference/src/block.rs 'encode(&station) == block)' 'encode(&station)[..320] == block[..320])'
+slip reserved_ignored blocks reference/src/block.rs 'encode(&station) == block)' 'encode(&station)[..RESERVED_AT] == block[..RESERVED_AT])'
 slip tickets_not_consecutive blocks reference/src/block.rs \
-    'number: accepted' 'number: number(block, at::FIRM_TICKET + 4 * index, 4)'
+    'number: accepted' 'number: number(block, TICKET_AT + 4 * index, 4)'
 slip stamp_not_rolled_over blocks reference/src/block.rs '(time - stamp) % ROLL_OVER' '(time % ROLL_OVER).saturating_sub(stamp)'
 slip flags_after_block blocks compare/src/expected.rs \
     '    if flags > flag::DONE + flag::SOFT {' '    if station.is_some() && flags > flag::DONE + flag::SOFT {'

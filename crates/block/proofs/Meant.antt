@@ -25,14 +25,14 @@ use Rattle.block.specs.Layout.{Long}
 use Rattle.block.specs.Image.{Imaged}
 use Rattle.block.proofs.Bits.{in-known}
 use Rattle.block.proofs.Entered.{entry-out, rows-hold, rows-run}
-use Rattle.block.proofs.Numbers.{FirmSays, RowSays, behind-next, firm-says, row-says, stamp-quiet, stamp-young, to-runs, to-tickets}
+use Rattle.block.proofs.Numbers.{FirmSays, HardSays, behind-next, firm-says, hard-says, stamp-quiet, stamp-young, to-runs, to-tickets}
 use Rattle.block.proofs.RankSets.{set-once}
 use Rattle.block.proofs.Tested.{Checked, last-low, lastTest}
 use Rattle.block.proofs.Trip.{Fit}
 
 -- the last runner among the rows
-pub last-at : (s : State) (i : ℕ) → i < 16 → lastAt (lastOf s) i ≡ eqb i (s .last)
-last-at s i h = go (ltb (s .last) 16) refl (eqb (s .last) 16)
+pub last-is : (s : State) (i : ℕ) → i < 16 → lastAt (lastOf s) i ≡ eqb i (s .last)
+last-is s i h = go (ltb (s .last) 16) refl (eqb (s .last) 16)
   where
     go : (a : Bool) → ltb (s .last) 16 ≡ a → (x : Bool) → lastAt (cond a (row-at (s .last)) (cond x (firm-of (entry (s .ticket) 0)) nobody)) i ≡ eqb i (s .last)
     go true e x = refl
@@ -53,8 +53,8 @@ module _ (rows : Rows) (s : State) (L : Long rows s) (F : Fit rows s) (C : Check
 
   -- a row
 
-  says : (i : ℕ) → i < 16 → RowSays (ltb i (rows .n)) (bit (s .«open») i) (eqb i (s .last)) (entry (rows .c) i) (entry (rows .d) i) (entry (rows .t) i) (entry (rows .u) i) (entry (s .run) i)
-  says i h = row-says (ltb i (rows .n)) (bit (s .«open») i) (eqb i (s .last)) (entry (rows .c) i) (entry (rows .d) i) (entry (rows .t) i) (entry (rows .u) i) (entry (s .run) i) (C .row i h)
+  says : (i : ℕ) → i < 16 → HardSays (ltb i (rows .n)) (bit (s .«open») i) (eqb i (s .last)) (entry (rows .c) i) (entry (rows .d) i) (entry (rows .t) i) (entry (rows .u) i) (entry (s .run) i)
+  says i h = hard-says (ltb i (rows .n)) (bit (s .«open») i) (eqb i (s .last)) (entry (rows .c) i) (entry (rows .d) i) (entry (rows .t) i) (entry (rows .u) i) (entry (s .run) i) (C .row i h)
 
   C-pos : (i : ℕ) → i < rows .n → 1 ≤ entry (rows .c) i
   C-pos i h =
@@ -140,11 +140,11 @@ module _ (rows : Rows) (s : State) (L : Long rows s) (F : Fit rows s) (C : Check
   good i h =
       let few = C .few in
       let R = says i (omega arith) in
-      record { C-pos = C-pos i h; U-le = R .U-le; D-le = R .D-le; age-le = held (bit (s .rested) i) refl }
+      record { C-pos = C-pos i h; U-le = R .U-le; D-le = R .D-le; age-le = age-low (bit (s .rested) i) refl }
     where
-      held : (b : Bool) → bit (s .rested) i ≡ b → cond b (entry (rows .t) i) (wrapped (s .clock) (entry (s .stamp) i)) ≤ entry (rows .t) i
-      held true e = le-refl (entry (rows .t) i)
-      held false e = omega (arith, young i h e)
+      age-low : (b : Bool) → bit (s .rested) i ≡ b → cond b (entry (rows .t) i) (wrapped (s .clock) (entry (s .stamp) i)) ≤ entry (rows .t) i
+      age-low true e = le-refl (entry (rows .t) i)
+      age-low false e = omega (arith, young i h e)
 
   row-ok : (i : ℕ) → i < rows .n → RowOk (rowAt rows i)
   row-ok i h = let few = C .few in let R = says i (omega arith) in record { C-pos = C-pos i h; C-le = R .C-le; D-le = R .D-le }
@@ -152,7 +152,7 @@ module _ (rows : Rows) (s : State) (L : Long rows s) (F : Fit rows s) (C : Check
   runs : (i : ℕ) → i < rows .n → Runs (lastAt (lastOf s) i) (slotAt rows s i)
   runs i h =
       let few = C .few in
-      rw (last-at s i (omega arith)) (to-runs (rowAt rows i) (entry (rows .u) i) (ageAt rows s i) (entry (s .run) i) (bit (s .«open») i) (eqb i (s .last)) (C-pos i h) (says i (omega arith) .runs))
+      rw (last-is s i (omega arith)) (to-runs (rowAt rows i) (entry (rows .u) i) (ageAt rows s i) (entry (s .run) i) (bit (s .«open») i) (eqb i (s .last)) (C-pos i h) (says i (omega arith) .runs))
 
   paid : (j : ℕ) → j < s .count → (1 ≤ entry (s .budget) j) × (entry (s .used) j ≤ entry (s .budget) j) × (entry (s .budget) j < 2 ^ 16)
   paid j h =

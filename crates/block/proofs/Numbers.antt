@@ -14,12 +14,12 @@ use Rattle.rules.proofs.Facts.{Runs, TicketsTo, closed-not-open}
 use Rattle.rules.proofs.ImageTests.{opened-same}
 use Rattle.state.specs.Meaning.{rowsFrom, wrapped}
 use Rattle.state.proofs.Positions.{length-rows}
-use Rattle.block.specs.Tests.{firmFault, rowFault, stampFault}
+use Rattle.block.specs.Tests.{firmFault, hardFault, stampFault}
 use Rattle.block.proofs.Ors.{none-or, or-none}
 
 -- a row
 
-pub record RowSays (live o ran : Bool) (c d t u run : ℕ) : Type 0 where
+pub record HardSays (live o ran : Bool) (c d t u run : ℕ) : Type 0 where
   pub C-le : c ≤ d
   pub D-le : d ≤ t
   pub U-le : u + c ≤ d
@@ -27,18 +27,18 @@ pub record RowSays (live o ran : Bool) (c d t u run : ℕ) : Type 0 where
   pub runs : run ≤ cond o (c - cond ran 0 1) 0
 
 module _ (live o ran : Bool) (c d t u run : ℕ) where
-  pub row-says : rowFault live o ran c d t u run ≡ 0 → RowSays live o ran c d t u run
-  unfolding rowFault
-  row-says e =
+  pub hard-says : hardFault live o ran c d t u run ≡ 0 → HardSays live o ran c d t u run
+  unfolding hardFault
+  hard-says e =
       let (e4, r) = or-none (bitOr (bitOr (bitOr (c - d) (d - t)) (u - (d - c))) (cond live (1 - c) t)) (run - cond o (c - cond ran 0 1) 0) e in
       let (e3, l) = or-none (bitOr (bitOr (c - d) (d - t)) (u - (d - c))) (cond live (1 - c) t) e4 in
       let (e2, w) = or-none (bitOr (c - d) (d - t)) (u - (d - c)) e3 in
       let (a, b) = or-none (c - d) (d - t) e2 in
       record { C-le = omega arith; D-le = omega arith; U-le = omega arith; there = l; runs = omega arith }
 
-  pub says-row : RowSays live o ran c d t u run → rowFault live o ran c d t u run ≡ 0
-  unfolding rowFault
-  says-row R =
+  pub says-hard : HardSays live o ran c d t u run → hardFault live o ran c d t u run ≡ 0
+  unfolding hardFault
+  says-hard R =
       none-or (bitOr (bitOr (bitOr (c - d) (d - t)) (u - (d - c))) (cond live (1 - c) t)) (run - cond o (c - cond ran 0 1) 0)
       (none-or (bitOr (bitOr (c - d) (d - t)) (u - (d - c))) (cond live (1 - c) t)
       (none-or (bitOr (c - d) (d - t)) (u - (d - c)) (none-or (c - d) (d - t) (omega (arith, R .C-le)) (omega (arith, R .D-le))) (omega (arith, R .U-le, R .C-le)))

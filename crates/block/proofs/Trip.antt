@@ -1,5 +1,5 @@
 -- The image of a state is read back as the state. Assumes nothing.
-use Prim.Native.Nat.{ℕ, _+_, _<_, _^_}
+use Prim.Native.Nat.{ℕ, _<_, _^_}
 use mathlib.Core.List.{List, _++_, append-assoc}
 use mathlib.Core.Path.{refl, _≡_}
 use lib.ListN.{drop}
@@ -7,10 +7,12 @@ use native.Mathlib.Omega.{arith}
 use Rattle.state.specs.declared.Rows.{Rows}
 use Rattle.state.specs.declared.State.{State}
 use Rattle.state.specs.Meaning.{entry}
-use Rattle.block.specs.Words.{four, joined, one, quad, two, word}
-use Rattle.block.specs.Layout.{Long, headOf, imageOf, jobsOf, queueOf, reserved, rowsAt, stateAt, tableOf}
-use Rattle.block.proofs.Lengths.{fours-long, ones-long, twos-long}
-use Rattle.block.proofs.ReadBack.{From, all-entries, behind, bytes-back, quads-back, words-back}
+use Rattle.block.specs.Places.{C-at, D-at, T-at, U-at, budget-at, clock-at, count-at, free-at, last-at, n-at, next-at, open-at, rank-at, reserved-at, rested-at, run-at, stamp-at, ticket-at, used-at}
+use Rattle.block.specs.Words.{joined, le16, le16Bytes, le32, le32Bytes, le8Bytes}
+use Rattle.block.specs.Layout.{Long, headBytes, imageOf, jobsBytes, queueBytes, reserved, rowsAt, stateAt, tableBytes}
+use Rattle.block.proofs.Arrays.{joined-long, numbers-back}
+use Rattle.block.proofs.Forms.{form16, form32, form8}
+use Rattle.block.proofs.Stands.{Stands, behind}
 
 -- the numbers have the widths of the block
 pub record Fit (rows : Rows) (s : State) : Type 0 where
@@ -36,77 +38,77 @@ module _ (rows : Rows) (s : State) (L : Long rows s) (F : Fit rows s) where
   -- the arrays, one behind the other
 
   abbrev firms : List ℕ
-  firms = joined two (s .budget) ++ (joined two (s .used) ++ (joined four (s .ticket) ++ reserved))
+  firms = joined le16Bytes (s .budget) ++ (joined le16Bytes (s .used) ++ (joined le32Bytes (s .ticket) ++ reserved))
 
   abbrev jobs : List ℕ
-  jobs = joined two (s .run) ++ (joined four (s .stamp) ++ (joined one (rows .rank) ++ firms))
+  jobs = joined le16Bytes (s .run) ++ (joined le32Bytes (s .stamp) ++ (joined le8Bytes (rows .rank) ++ firms))
 
-  from-16 : From (imageOf rows s) 16 (joined two (rows .c)) (joined two (rows .d) ++ (joined two (rows .t) ++ (joined two (rows .u) ++ jobs)))
-  unfolding imageOf headOf tableOf jobsOf queueOf
-  from-16 = record { is = simp append-assoc }
+  c-stands : Stands (imageOf rows s) C-at (joined le16Bytes (rows .c)) (joined le16Bytes (rows .d) ++ (joined le16Bytes (rows .t) ++ (joined le16Bytes (rows .u) ++ jobs)))
+  unfolding imageOf headBytes tableBytes jobsBytes queueBytes
+  c-stands = record { is = simp append-assoc }
 
-  from-48 : From (imageOf rows s) 48 (joined two (rows .d)) (joined two (rows .t) ++ (joined two (rows .u) ++ jobs))
-  from-48 = record { is = behind 32 from-16 (twos-long (rows .c) 16 (L .c-long)) }
+  d-stands : Stands (imageOf rows s) D-at (joined le16Bytes (rows .d)) (joined le16Bytes (rows .t) ++ (joined le16Bytes (rows .u) ++ jobs))
+  d-stands = record { is = behind c-stands (joined-long form16 (rows .c) 16 (L .c-long)) }
 
-  from-80 : From (imageOf rows s) 80 (joined two (rows .t)) (joined two (rows .u) ++ jobs)
-  from-80 = record { is = behind 32 from-48 (twos-long (rows .d) 16 (L .d-long)) }
+  t-stands : Stands (imageOf rows s) T-at (joined le16Bytes (rows .t)) (joined le16Bytes (rows .u) ++ jobs)
+  t-stands = record { is = behind d-stands (joined-long form16 (rows .d) 16 (L .d-long)) }
 
-  from-112 : From (imageOf rows s) 112 (joined two (rows .u)) jobs
-  from-112 = record { is = behind 32 from-80 (twos-long (rows .t) 16 (L .t-long)) }
+  u-stands : Stands (imageOf rows s) U-at (joined le16Bytes (rows .u)) jobs
+  u-stands = record { is = behind t-stands (joined-long form16 (rows .t) 16 (L .t-long)) }
 
-  from-144 : From (imageOf rows s) 144 (joined two (s .run)) (joined four (s .stamp) ++ (joined one (rows .rank) ++ firms))
-  from-144 = record { is = behind 32 from-112 (twos-long (rows .u) 16 (L .u-long)) }
+  run-stands : Stands (imageOf rows s) run-at (joined le16Bytes (s .run)) (joined le32Bytes (s .stamp) ++ (joined le8Bytes (rows .rank) ++ firms))
+  run-stands = record { is = behind u-stands (joined-long form16 (rows .u) 16 (L .u-long)) }
 
-  from-176 : From (imageOf rows s) 176 (joined four (s .stamp)) (joined one (rows .rank) ++ firms)
-  from-176 = record { is = behind 32 from-144 (twos-long (s .run) 16 (L .run-long)) }
+  stamp-stands : Stands (imageOf rows s) stamp-at (joined le32Bytes (s .stamp)) (joined le8Bytes (rows .rank) ++ firms)
+  stamp-stands = record { is = behind run-stands (joined-long form16 (s .run) 16 (L .run-long)) }
 
-  from-240 : From (imageOf rows s) 240 (joined one (rows .rank)) firms
-  from-240 = record { is = behind 64 from-176 (fours-long (s .stamp) 16 (L .stamp-long)) }
+  rank-stands : Stands (imageOf rows s) rank-at (joined le8Bytes (rows .rank)) firms
+  rank-stands = record { is = behind stamp-stands (joined-long form32 (s .stamp) 16 (L .stamp-long)) }
 
-  from-256 : From (imageOf rows s) 256 (joined two (s .budget)) (joined two (s .used) ++ (joined four (s .ticket) ++ reserved))
-  from-256 = record { is = behind 16 from-240 (ones-long (rows .rank) 16 (L .rank-long)) }
+  budget-stands : Stands (imageOf rows s) budget-at (joined le16Bytes (s .budget)) (joined le16Bytes (s .used) ++ (joined le32Bytes (s .ticket) ++ reserved))
+  budget-stands = record { is = behind rank-stands (joined-long form8 (rows .rank) 16 (L .rank-long)) }
 
-  from-272 : From (imageOf rows s) 272 (joined two (s .used)) (joined four (s .ticket) ++ reserved)
-  from-272 = record { is = behind 16 from-256 (twos-long (s .budget) 8 (L .budget-long)) }
+  used-stands : Stands (imageOf rows s) used-at (joined le16Bytes (s .used)) (joined le32Bytes (s .ticket) ++ reserved)
+  used-stands = record { is = behind budget-stands (joined-long form16 (s .budget) 8 (L .budget-long)) }
 
-  from-288 : From (imageOf rows s) 288 (joined four (s .ticket)) reserved
-  from-288 = record { is = behind 16 from-272 (twos-long (s .used) 8 (L .used-long)) }
+  ticket-stands : Stands (imageOf rows s) ticket-at (joined le32Bytes (s .ticket)) reserved
+  ticket-stands = record { is = behind used-stands (joined-long form16 (s .used) 8 (L .used-long)) }
 
-  pub from-320 : drop 320 (imageOf rows s) ≡ reserved
-  from-320 = behind 32 from-288 (fours-long (s .ticket) 8 (L .ticket-long))
+  pub reserved-stands : drop reserved-at (imageOf rows s) ≡ reserved
+  reserved-stands = behind ticket-stands (joined-long form32 (s .ticket) 8 (L .ticket-long))
 
   -- the numbers in front
 
-  n-back : entry (imageOf rows s) 0 ≡ rows .n
-  unfolding imageOf headOf
+  n-back : entry (imageOf rows s) n-at ≡ rows .n
+  unfolding imageOf headBytes
   n-back = omega (arith, F .n-lt)
 
-  count-back : entry (imageOf rows s) 1 ≡ s .count
-  unfolding imageOf headOf
+  count-back : entry (imageOf rows s) count-at ≡ s .count
+  unfolding imageOf headBytes
   count-back = omega (arith, F .count-lt)
 
-  last-back : entry (imageOf rows s) 2 ≡ s .last
-  unfolding imageOf headOf
+  last-back : entry (imageOf rows s) last-at ≡ s .last
+  unfolding imageOf headBytes
   last-back = omega (arith, F .last-lt)
 
-  pub free-back : entry (imageOf rows s) 3 ≡ 0
-  unfolding imageOf headOf
+  pub free-back : entry (imageOf rows s) free-at ≡ 0
+  unfolding imageOf headBytes
   free-back = refl
 
-  clock-back : quad (imageOf rows s) 4 ≡ s .clock
-  unfolding imageOf headOf
+  clock-back : le32 (imageOf rows s) clock-at ≡ s .clock
+  unfolding imageOf headBytes
   clock-back = omega (arith, F .clock-lt)
 
-  next-back : quad (imageOf rows s) 8 ≡ s .next
-  unfolding imageOf headOf
+  next-back : le32 (imageOf rows s) next-at ≡ s .next
+  unfolding imageOf headBytes
   next-back = omega (arith, F .next-lt)
 
-  open-back : word (imageOf rows s) 12 ≡ s .«open»
-  unfolding imageOf headOf
+  open-back : le16 (imageOf rows s) open-at ≡ s .«open»
+  unfolding imageOf headBytes
   open-back = omega (arith, F .open-lt)
 
-  rested-back : word (imageOf rows s) 14 ≡ s .rested
-  unfolding imageOf headOf
+  rested-back : le16 (imageOf rows s) rested-at ≡ s .rested
+  unfolding imageOf headBytes
   rested-back = omega (arith, F .rested-lt)
 
   -- the whole
@@ -115,11 +117,11 @@ module _ (rows : Rows) (s : State) (L : Long rows s) (F : Fit rows s) where
   rows-back =
       rw (
         n-back,
-        words-back (rows .c) from-16 (L .c-long) (all-entries (λ x. x < 2 ^ 16) (rows .c) (F .c-lt)),
-        words-back (rows .d) from-48 (L .d-long) (all-entries (λ x. x < 2 ^ 16) (rows .d) (F .d-lt)),
-        words-back (rows .t) from-80 (L .t-long) (all-entries (λ x. x < 2 ^ 16) (rows .t) (F .t-lt)),
-        words-back (rows .u) from-112 (L .u-long) (all-entries (λ x. x < 2 ^ 16) (rows .u) (F .u-lt)),
-        bytes-back (rows .rank) from-240 (L .rank-long) (all-entries (λ x. x < 2 ^ 8) (rows .rank) (F .rank-lt)),
+        numbers-back form16 (rows .c) c-stands (L .c-long) (F .c-lt),
+        numbers-back form16 (rows .d) d-stands (L .d-long) (F .d-lt),
+        numbers-back form16 (rows .t) t-stands (L .t-long) (F .t-lt),
+        numbers-back form16 (rows .u) u-stands (L .u-long) (F .u-lt),
+        numbers-back form8 (rows .rank) rank-stands (L .rank-long) (F .rank-lt),
       )
 
   pub state-back : stateAt (imageOf rows s) ≡ s
@@ -131,9 +133,9 @@ module _ (rows : Rows) (s : State) (L : Long rows s) (F : Fit rows s) where
         rested-back,
         last-back,
         count-back,
-        words-back (s .run) from-144 (L .run-long) (all-entries (λ x. x < 2 ^ 16) (s .run) (F .run-lt)),
-        quads-back (s .stamp) from-176 (L .stamp-long) (all-entries (λ x. x < 2 ^ 32) (s .stamp) (F .stamp-lt)),
-        words-back (s .budget) from-256 (L .budget-long) (all-entries (λ x. x < 2 ^ 16) (s .budget) (F .budget-lt)),
-        words-back (s .used) from-272 (L .used-long) (all-entries (λ x. x < 2 ^ 16) (s .used) (F .used-lt)),
-        quads-back (s .ticket) from-288 (L .ticket-long) (all-entries (λ x. x < 2 ^ 32) (s .ticket) (F .ticket-lt)),
+        numbers-back form16 (s .run) run-stands (L .run-long) (F .run-lt),
+        numbers-back form32 (s .stamp) stamp-stands (L .stamp-long) (F .stamp-lt),
+        numbers-back form16 (s .budget) budget-stands (L .budget-long) (F .budget-lt),
+        numbers-back form16 (s .used) used-stands (L .used-long) (F .used-lt),
+        numbers-back form32 (s .ticket) ticket-stands (L .ticket-long) (F .ticket-lt),
       )

@@ -1,66 +1,76 @@
 -- A block whose free bytes are 0 is the image of what is read from it. Assumes nothing.
-use Prim.Native.Nat.{ℕ, _%_, _+_, _<_, _^_}
-use mathlib.Core.List.{List, _++_}
-use mathlib.Core.Path.{ap, ap₂, sym, _∙_, _≡_}
-use lib.ListN.{length}
-use lib.Seq.{take-all}
+use Prim.Native.Nat.{ℕ, _%_, _+_, _<_}
+use mathlib.Core.List.{List, _++_, append-nil}
+use mathlib.Core.Path.{ap, sym, _∙_, _≡_}
+use lib.ListN.{drop, drop-of-length-le, getD-replicate, length, length-drop, length-replicate, replicate}
+use lib.Seq.{ext-getD, getD-drop}
 use native.Mathlib.Omega.{arith}
-use Rattle.rules.specs.Lists.{All}
+use Rattle.rules.specs.Tables.{Bytes}
 use Rattle.rules.proofs.Fields.{byte-lt}
 use Rattle.state.specs.Meaning.{entry}
-use Rattle.block.specs.Words.{one}
-use Rattle.block.specs.Layout.{headOf, imageOf, jobsOf, numbersOf, queueOf, reserved, rowsAt, stateAt, tableOf}
-use Rattle.block.proofs.Parts.{bytes-part, four-part, one-part, part, part-join, quads-part, two-part, words-part, zeros-part}
+use Rattle.block.specs.Places.{C-at, D-at, T-at, U-at, block-bytes, budget-at, clock-at, count-at, free-at, last-at, n-at, next-at, open-at, rank-at, reserved-at, reserved-bytes, rested-at, run-at, stamp-at, ticket-at, used-at}
+use Rattle.block.specs.Words.{le8Bytes}
+use Rattle.block.specs.Layout.{headBytes, imageOf, jobsBytes, marksBytes, numbersBytes, queueBytes, reserved, rowsAt, stateAt, tableBytes}
+use Rattle.block.proofs.Arrays.{numbers-stand}
+use Rattle.block.proofs.Forms.{form16, form32, form8}
+use Rattle.block.proofs.Stands.{Stands, join}
 
--- one part before the others
-join : (b : List ℕ) (at m n : ℕ) {p q : List ℕ} → p ≡ part b at m → q ≡ part b (at + m) n → p ++ q ≡ part b at (m + n)
-join b at m n e f = ap₂ (λ p q. p ++ q) e f ∙ part-join b at m n
+module _ (b : List ℕ) (bytes : Bytes b) (long : length b ≡ block-bytes)
+    (free : entry b free-at ≡ 0) (blank : (i : ℕ) → i < reserved-bytes → entry b (reserved-at + i) ≡ 0) where
+  byte : (k : ℕ) → k < block-bytes → Stands b k (le8Bytes (entry b k % 256)) (drop (k + 1) b)
+  byte k h = let e : entry b k % 256 ≡ entry b k = omega (arith, byte-lt b bytes k) in record { is = form8 .stands b bytes k (omega arith) .is ∙ ap (λ x. le8Bytes x ++ drop (k + 1) b) (sym e) }
 
-module _ (b : List ℕ) (bytes : All (λ x. x < 2 ^ 8) b) (long : length b ≡ 512)
-    (free : entry b 3 ≡ 0) (blank : (i : ℕ) → i < 192 → entry b (320 + i) ≡ 0) where
-  byte : (k : ℕ) → k < 512 → one (entry b k % 256) ≡ part b k 1
-  byte k h = let e : entry b k % 256 ≡ entry b k = omega (arith, byte-lt b bytes k) in ap one e ∙ one-part b bytes k (omega arith)
+  free-stands : Stands b free-at (le8Bytes 0) (drop clock-at b)
+  free-stands = record { is = form8 .stands b bytes free-at (omega arith) .is ∙ ap (λ x. le8Bytes x ++ drop clock-at b) free }
 
-  numbers-part : numbersOf (stateAt b) ≡ part b 4 12
-  numbers-part =
-      join b 4 4 8 (four-part b bytes 4 (omega arith))
-      (join b 8 4 4 (four-part b bytes 8 (omega arith))
-      (join b 12 2 2 (two-part b bytes 12 (omega arith)) (two-part b bytes 14 (omega arith))))
+  marks-stand : Stands b count-at (marksBytes (stateAt b)) (drop free-at b)
+  marks-stand = join last-at (byte count-at (omega arith)) (byte last-at (omega arith))
 
-  head-part : headOf (entry b 0) (stateAt b) ≡ part b 0 16
-  unfolding headOf
-  head-part =
-      join b 0 1 15 (byte 0 (omega arith))
-      (join b 1 2 13 (join b 1 1 1 (byte 1 (omega arith)) (byte 2 (omega arith)))
-      (join b 3 1 12 (ap one (sym free) ∙ one-part b bytes 3 (omega arith)) numbers-part))
+  numbers-are : Stands b clock-at (numbersBytes (stateAt b)) (drop C-at b)
+  numbers-are =
+      join next-at (form32 .stands b bytes clock-at (omega arith))
+      (join open-at (form32 .stands b bytes next-at (omega arith))
+      (join rested-at (form16 .stands b bytes open-at (omega arith)) (form16 .stands b bytes rested-at (omega arith))))
 
-  table-part : tableOf (rowsAt b) ≡ part b 16 128
-  unfolding tableOf
-  table-part =
-      join b 16 32 96 (words-part b bytes 16 16 (omega arith))
-      (join b 48 32 64 (words-part b bytes 48 16 (omega arith))
-      (join b 80 32 32 (words-part b bytes 80 16 (omega arith)) (words-part b bytes 112 16 (omega arith))))
+  head-stands : Stands b n-at (headBytes (entry b n-at) (stateAt b)) (drop C-at b)
+  unfolding headBytes
+  head-stands = join count-at (byte n-at (omega arith)) (join free-at marks-stand (join clock-at free-stands numbers-are))
 
-  jobs-part : jobsOf (stateAt b) ≡ part b 144 96
-  unfolding jobsOf
-  jobs-part = join b 144 32 64 (words-part b bytes 144 16 (omega arith)) (quads-part b bytes 176 16 (omega arith))
+  table-stands : Stands b C-at (tableBytes (rowsAt b)) (drop run-at b)
+  unfolding tableBytes
+  table-stands =
+      join D-at (numbers-stand form16 b bytes C-at 16 (omega arith))
+      (join T-at (numbers-stand form16 b bytes D-at 16 (omega arith))
+      (join U-at (numbers-stand form16 b bytes T-at 16 (omega arith)) (numbers-stand form16 b bytes U-at 16 (omega arith))))
 
-  queue-part : queueOf (stateAt b) ≡ part b 256 64
-  unfolding queueOf
-  queue-part =
-      join b 256 16 48 (words-part b bytes 256 8 (omega arith))
-      (join b 272 16 32 (words-part b bytes 272 8 (omega arith)) (quads-part b bytes 288 8 (omega arith)))
+  jobs-stand : Stands b run-at (jobsBytes (stateAt b)) (drop rank-at b)
+  unfolding jobsBytes
+  jobs-stand = join stamp-at (numbers-stand form16 b bytes run-at 16 (omega arith)) (numbers-stand form32 b bytes stamp-at 16 (omega arith))
 
-  reserved-part : reserved ≡ part b 320 192
+  queue-stands : Stands b budget-at (queueBytes (stateAt b)) (drop reserved-at b)
+  unfolding queueBytes
+  queue-stands =
+      join used-at (numbers-stand form16 b bytes budget-at 8 (omega arith))
+      (join ticket-at (numbers-stand form16 b bytes used-at 8 (omega arith)) (numbers-stand form32 b bytes ticket-at 8 (omega arith)))
+
+  reserved-is : drop reserved-at b ≡ reserved
   unfolding reserved
-  reserved-part = zeros-part b 320 192 (omega arith) blank
+  reserved-is =
+      let size : length (drop reserved-at b) ≡ reserved-bytes = rw length-drop (omega arith) in
+      ext-getD {A = ℕ} 0 (drop reserved-at b) (replicate reserved-bytes 0) (size ∙ sym (length-replicate {A = ℕ} reserved-bytes 0)) (λ i l.
+      let m : i < reserved-bytes = rw size at l in
+      getD-drop reserved-at b i 0 ∙ blank i m ∙ sym (getD-replicate reserved-bytes i 0 0 m))
+
+  reserved-stands : Stands b reserved-at reserved (drop block-bytes b)
+  reserved-stands = record { is = reserved-is ∙ sym (append-nil reserved) ∙ ap (λ l. reserved ++ l) (sym (drop-of-length-le b {i = block-bytes} (omega arith))) }
 
   pub image-is : imageOf (rowsAt b) (stateAt b) ≡ b
   unfolding imageOf
   image-is =
-      join b 0 16 496 head-part
-      (join b 16 128 368 table-part
-      (join b 144 96 272 jobs-part
-      (join b 240 16 256 (bytes-part b bytes 240 16 (omega arith))
-      (join b 256 64 192 queue-part reserved-part))))
-      ∙ take-all 512 b (omega arith)
+      let all =
+      join C-at head-stands
+      (join run-at table-stands
+      (join rank-at jobs-stand
+      (join budget-at (numbers-stand form8 b bytes rank-at 16 (omega arith))
+      (join reserved-at queue-stands reserved-stands)))) in
+      sym (all .is ∙ ap (λ l. imageOf (rowsAt b) (stateAt b) ++ l) (drop-of-length-le b {i = block-bytes} (omega arith)) ∙ append-nil (imageOf (rowsAt b) (stateAt b)))

@@ -7,6 +7,7 @@ use Rattle.rules.specs.Tables.{Bytes}
 use Rattle.state.specs.declared.Rows.{Rows}
 use Rattle.state.specs.declared.State.{State}
 use Rattle.state.specs.Meaning.{Stored}
+use Rattle.block.specs.Places.{block-bytes}
 use Rattle.block.specs.Layout.{Long, imageOf, stateOn}
 use Rattle.block.specs.Tests.{decodedAs, decodedOf}
 
@@ -17,8 +18,8 @@ pub record Imaged (rows : Rows) (s : State) : Type 0 where
 
 -- one image a state, and no other list of bytes is accepted
 pub record BlockPromises : Type 0 where
-  -- an image is 512 bytes
-  pub image-bytes : (rows : Rows) (s : State) → Imaged rows s → Bytes (imageOf rows s) × (length (imageOf rows s) ≡ 512)
+  -- an image is bytes, as many as a block has
+  pub image-bytes : (rows : Rows) (s : State) → Imaged rows s → Bytes (imageOf rows s) × (length (imageOf rows s) ≡ block-bytes)
   -- decode of encode is the state
   pub decode-encode : (rows : Rows) (s : State) → Imaged rows s → decodedOf (imageOf rows s) ≡ decodedAs rows s
   -- only images are accepted

@@ -1,4 +1,4 @@
--- The block, 512 bytes: where each field stands, and the one image of a state. Assumes nothing.
+-- The block: what stands at each place, and the one image of a state. Assumes nothing.
 use Prim.Native.Nat.{ℕ, _%_}
 use mathlib.Core.Bool.{cond}
 use mathlib.Core.List.{List, [], _∷_, _++_}
@@ -9,63 +9,64 @@ use lib.Seq.{sets}
 use Rattle.state.specs.Meaning.{entry}
 use Rattle.state.specs.declared.Rows.{Rows}
 use Rattle.state.specs.declared.State.{State}
-use Rattle.block.specs.Words.{bytesAt, four, joined, one, quad, quadsAt, two, word, wordsAt}
+use Rattle.block.specs.Places.{C-at, D-at, T-at, U-at, block-bytes, budget-at, clock-at, count-at, last-at, n-at, next-at, open-at, rank-at, reserved-bytes, rested-at, run-at, stamp-at, ticket-at, used-at}
+use Rattle.block.specs.Words.{joined, le16, le16Bytes, le16sAt, le32, le32Bytes, le32sAt, le8Bytes, le8sAt}
 
 -- read
 
 -- what no tick changes
 abbrev pub rowsAt : List ℕ → Rows
-rowsAt b = record { n = entry b 0; c = wordsAt b 16 16; d = wordsAt b 48 16; t = wordsAt b 80 16; u = wordsAt b 112 16; rank = bytesAt b 240 16 }
+rowsAt b = record { n = entry b n-at; c = le16sAt b C-at 16; d = le16sAt b D-at 16; t = le16sAt b T-at 16; u = le16sAt b U-at 16; rank = le8sAt b rank-at 16 }
 
 -- what ticks and offers change
 abbrev pub stateAt : List ℕ → State
 stateAt b = record {
-  clock = quad b 4;
-  next = quad b 8;
-  «open» = word b 12;
-  rested = word b 14;
-  last = entry b 2;
-  count = entry b 1;
-  run = wordsAt b 144 16;
-  stamp = quadsAt b 176 16;
-  budget = wordsAt b 256 8;
-  used = wordsAt b 272 8;
-  ticket = quadsAt b 288 8;
+  clock = le32 b clock-at;
+  next = le32 b next-at;
+  «open» = le16 b open-at;
+  rested = le16 b rested-at;
+  last = entry b last-at;
+  count = entry b count-at;
+  run = le16sAt b run-at 16;
+  stamp = le32sAt b stamp-at 16;
+  budget = le16sAt b budget-at 8;
+  used = le16sAt b used-at 8;
+  ticket = le32sAt b ticket-at 8;
 }
 
--- the image
+-- the image, part after part, each from a place up to the next part's
 
--- 1: how many firm jobs, and the last runner
-abbrev pub marksOf : State → List ℕ
-marksOf s = s .count % 256 ∷ s .last % 256 ∷ []
+-- from count-at: how many firm jobs, and the last runner
+abbrev pub marksBytes : State → List ℕ
+marksBytes s = s .count % 256 ∷ s .last % 256 ∷ []
 
--- 4: the clock, the next ticket, the open rows, the rested rows
-abbrev pub numbersOf : State → List ℕ
-numbersOf s = four (s .clock) ++ (four (s .next) ++ (two (s .«open») ++ two (s .rested)))
+-- from clock-at: the clock, the next ticket, the open rows, the rested rows
+abbrev pub numbersBytes : State → List ℕ
+numbersBytes s = le32Bytes (s .clock) ++ (le32Bytes (s .next) ++ (le16Bytes (s .«open») ++ le16Bytes (s .rested)))
 
--- 0
-unfoldable pub headOf : ℕ → State → List ℕ
-headOf n s = n % 256 ∷ (marksOf s ++ (0 ∷ numbersOf s))
+-- from n-at: how many rows, the marks, the free byte, the numbers
+unfoldable pub headBytes : ℕ → State → List ℕ
+headBytes n s = n % 256 ∷ (marksBytes s ++ (0 ∷ numbersBytes s))
 
--- 16
-unfoldable pub tableOf : Rows → List ℕ
-tableOf rows = joined two (rows .c) ++ (joined two (rows .d) ++ (joined two (rows .t) ++ joined two (rows .u)))
+-- from C-at
+unfoldable pub tableBytes : Rows → List ℕ
+tableBytes rows = joined le16Bytes (rows .c) ++ (joined le16Bytes (rows .d) ++ (joined le16Bytes (rows .t) ++ joined le16Bytes (rows .u)))
 
--- 144
-unfoldable pub jobsOf : State → List ℕ
-jobsOf s = joined two (s .run) ++ joined four (s .stamp)
+-- from run-at
+unfoldable pub jobsBytes : State → List ℕ
+jobsBytes s = joined le16Bytes (s .run) ++ joined le32Bytes (s .stamp)
 
--- 256; at 240 stand the ranks
-unfoldable pub queueOf : State → List ℕ
-queueOf s = joined two (s .budget) ++ (joined two (s .used) ++ joined four (s .ticket))
+-- from budget-at; between the jobs and the queue stand the ranks
+unfoldable pub queueBytes : State → List ℕ
+queueBytes s = joined le16Bytes (s .budget) ++ (joined le16Bytes (s .used) ++ joined le32Bytes (s .ticket))
 
--- 320
+-- from reserved-at
 unfoldable pub reserved : List ℕ
-reserved = replicate 192 0
+reserved = replicate reserved-bytes 0
 
--- the whole, one part after the other
+-- the whole
 unfoldable pub imageOf : Rows → State → List ℕ
-imageOf rows s = headOf (rows .n) s ++ (tableOf rows ++ (jobsOf s ++ (joined one (rows .rank) ++ (queueOf s ++ reserved))))
+imageOf rows s = headBytes (rows .n) s ++ (tableBytes rows ++ (jobsBytes s ++ (joined le8Bytes (rows .rank) ++ (queueBytes s ++ reserved))))
 
 -- the arrays have the lengths of their types
 pub record Long (rows : Rows) (s : State) : Type 0 where
@@ -82,14 +83,14 @@ pub record Long (rows : Rows) (s : State) : Type 0 where
 
 -- written
 
--- the whole image over a block of 512 bytes; any other list stays
+-- the whole image over a block of the right length; any other list stays
 unfoldable pub encodedOn : List ℕ → Rows → State → List ℕ
-encodedOn b rows s = cond (eqb (length b) 512) (imageOf rows s) b
+encodedOn b rows s = cond (eqb (length b) block-bytes) (imageOf rows s) b
 
 -- what a tick or an offer changes, over the image of the state before
 unfoldable pub stateOn : List ℕ → State → List ℕ
-stateOn b s = sets (sets (sets (sets b 1 (marksOf s)) 4 (numbersOf s)) 144 (jobsOf s)) 256 (queueOf s)
+stateOn b s = sets (sets (sets (sets b count-at (marksBytes s)) clock-at (numbersBytes s)) run-at (jobsBytes s)) budget-at (queueBytes s)
 
--- the same on a block of 512 bytes; any other list stays
+-- the same on a block of the right length; any other list stays
 unfoldable pub writtenOn : List ℕ → State → List ℕ
-writtenOn b s = cond (eqb (length b) 512) (stateOn b s) b
+writtenOn b s = cond (eqb (length b) block-bytes) (stateOn b s) b

@@ -1,3 +1,4 @@
+pub mod Places
 pub mod Words
 pub mod Layout
 pub mod Tests

@@ -5,22 +5,24 @@ ghost use Prim.Native.Nat.{_-_, _%_, _^_, _≤_, _<_};
 ghost use lib.ListN.{length};
 ghost use Rattle.rules.specs.Tick.{bit};
 ghost use Rattle.state.specs.Meaning.{wrapped};
-ghost use Rattle.block.specs.Tests.{rowMark, firmMark, rowFault, rowsOk, ranksOnce, ranksLow, ranksBlank, stampFault, stampsOk, firmFault, firmsOk, ticketsOk, lastOk, freeOk, tableTest, jobsTest, timesTest, queueTest, restTest, imageOk};
+ghost use Rattle.block.specs.Places.{block-bytes};
+ghost use Rattle.block.specs.Tests.{rowMark, firmMark, hardFault, rowsGood, ranksOnce, ranksLow, ranksBlank, stampFault, stampsGood, firmFault, firmsGood, ticketsGood, lastGood, freeGood, tableGood, jobsGood, timesGood, queueGood, restGood, imageGood};
+use crate::places;
 use crate::words;
 
-pub fn is_image(b: &[u8]) -> bool
-    requires { ⌜ length (now b) ≡ 512 ⌝ }
-    ensures { λ r. ⌜ r ≡ imageOk (now (b .entry)) ⌝ }
+pub fn image_good(b: &[u8]) -> bool
+    requires { ⌜ length (now b) ≡ block-bytes ⌝ }
+    ensures { λ r. ⌜ r ≡ imageGood (now (b .entry)) ⌝ }
 {
-    let n = words::size(b[0]);
+    let n = words::size(b[places::N_AT]);
     if 16 < n {
         return false;
     }
-    let count = words::size(b[1]);
+    let count = words::size(b[places::COUNT_AT]);
     if 8 < count {
         return false;
     }
-    let last = words::size(b[2]);
+    let last = words::size(b[places::LAST_AT]);
     let live = state::known_rows(n);
     let r1 = table_good(b, n);
     let r2 = jobs_good(b, live, last);
@@ -31,42 +33,46 @@ pub fn is_image(b: &[u8]) -> bool
 }
 
 fn table_good(b: &[u8], n: usize) -> bool
-    requires { ⌜ (length (now b) ≡ 512) × (n ≤ 16) ⌝ }
-    ensures { λ r. ⌜ r ≡ tableTest (now (b .entry)) n ⌝ }
+    requires { ⌜ (length (now b) ≡ block-bytes) × (n ≤ 16) ⌝ }
+    ensures { λ r. ⌜ r ≡ tableGood (now (b .entry)) n ⌝ }
 {
     ranks_once(b, n) & ranks_low(b) & ranks_blank(b, n)
 }
 
 fn jobs_good(b: &[u8], live: u16, last: usize) -> bool
-    requires { ⌜ length (now b) ≡ 512 ⌝ }
-    ensures { λ r. ⌜ r ≡ jobsTest (now (b .entry)) live last ⌝ }
+    requires { ⌜ length (now b) ≡ block-bytes ⌝ }
+    ensures { λ r. ⌜ r ≡ jobsGood (now (b .entry)) live last ⌝ }
 {
-    let open = words::get16(b, 12);
+    let open = words::get16(b, places::OPEN_AT);
     rows_good(b, live, open, row_mark(last)) & (open <= live)
 }
 
 fn times_good(b: &[u8], live: u16) -> bool
-    requires { ⌜ length (now b) ≡ 512 ⌝ }
-    ensures { λ r. ⌜ r ≡ timesTest (now (b .entry)) live ⌝ }
+    requires { ⌜ length (now b) ≡ block-bytes ⌝ }
+    ensures { λ r. ⌜ r ≡ timesGood (now (b .entry)) live ⌝ }
 {
-    let rested = words::get16(b, 14);
-    stamps_good(b, rested | !live, words::get32(b, 4)) & (rested <= live)
+    let rested = words::get16(b, places::RESTED_AT);
+    stamps_good(b, rested | !live, words::get32(b, places::CLOCK_AT)) & (rested <= live)
 }
 
 fn queue_good(b: &[u8], count: usize, last: usize) -> bool
-    requires { ⌜ (length (now b) ≡ 512) × (count ≤ 8) ⌝ }
-    ensures { λ r. ⌜ r ≡ queueTest (now (b .entry)) count last ⌝ }
+    requires { ⌜ (length (now b) ≡ block-bytes) × (count ≤ 8) ⌝ }
+    ensures { λ r. ⌜ r ≡ queueGood (now (b .entry)) count last ⌝ }
 {
     let queued = state::known_rows(count);
     firms_good(b, queued, firm_mark(last))
-        & tickets_good(b, queued, first_ticket(words::get32(b, 8), count))
+        & tickets_good(
+            b,
+            queued,
+            first_ticket(words::get32(b, places::NEXT_AT), count),
+        )
 }
 
 fn rest_good(b: &[u8], count: usize, last: usize) -> bool
-    requires { ⌜ length (now b) ≡ 512 ⌝ }
-    ensures { λ r. ⌜ r ≡ restTest (now (b .entry)) count last ⌝ }
+    requires { ⌜ length (now b) ≡ block-bytes ⌝ }
+    ensures { λ r. ⌜ r ≡ restGood (now (b .entry)) count last ⌝ }
 {
-    last_good(b, last, words::get16(b, 12), count) & free_good(b)
+    last_good(b, last, words::get16(b, places::OPEN_AT), count) & free_good(b)
 }
 
 // The last runner as a set of rows, and as a set of firm jobs, of which only the first can be it.
@@ -109,8 +115,8 @@ fn pick(b: bool, x: u16, y: u16) -> u16
     if b { x } else { y }
 }
 
-fn row_fault(live: bool, open: bool, ran: bool, c: u16, d: u16, t: u16, u: u16, run: u16) -> u16
-    ensures { λ r. ⌜ r ≡ rowFault live «open» ran c d t u run ⌝ }
+fn hard_fault(live: bool, open: bool, ran: bool, c: u16, d: u16, t: u16, u: u16, run: u16) -> u16
+    ensures { λ r. ⌜ r ≡ hardFault live «open» ran c d t u run ⌝ }
 {
     over(c, d)
         | over(d, t)
@@ -120,22 +126,22 @@ fn row_fault(live: bool, open: bool, ran: bool, c: u16, d: u16, t: u16, u: u16, 
 }
 
 fn rows_good(b: &[u8], live: u16, open: u16, ran: u16) -> bool
-    requires { ⌜ length (now b) ≡ 512 ⌝ }
-    ensures { λ r. ⌜ r ≡ rowsOk (now (b .entry)) live «open» ran ⌝ }
+    requires { ⌜ length (now b) ≡ block-bytes ⌝ }
+    ensures { λ r. ⌜ r ≡ rowsGood (now (b .entry)) live «open» ran ⌝ }
 {
     let mut x: u16 = 0;
     let mut i: usize = 0;
     while i < 16 {
         x = x
-            | row_fault(
+            | hard_fault(
                 bit(live, i),
                 bit(open, i),
                 bit(ran, i),
-                words::get16(b, 16 + 2 * i),
-                words::get16(b, 48 + 2 * i),
-                words::get16(b, 80 + 2 * i),
-                words::get16(b, 112 + 2 * i),
-                words::get16(b, 144 + 2 * i),
+                words::get16(b, places::C_AT + 2 * i),
+                words::get16(b, places::D_AT + 2 * i),
+                words::get16(b, places::T_AT + 2 * i),
+                words::get16(b, places::U_AT + 2 * i),
+                words::get16(b, places::RUN_AT + 2 * i),
             );
         i += 1;
     }
@@ -144,39 +150,39 @@ fn rows_good(b: &[u8], live: u16, open: u16, ran: u16) -> bool
 
 // The ranks of the rows below n, as a set, are the positions below n.
 fn ranks_once(b: &[u8], n: usize) -> bool
-    requires { ⌜ (length (now b) ≡ 512) × (n ≤ 16) ⌝ }
+    requires { ⌜ (length (now b) ≡ block-bytes) × (n ≤ 16) ⌝ }
     ensures { λ r. ⌜ r ≡ ranksOnce (now (b .entry)) n ⌝ }
 {
     let mut x: u32 = 0;
     let mut i: usize = 0;
     while i < n {
-        x = x | mark(words::size(b[240 + i]));
+        x = x | mark(words::size(b[places::RANK_AT + i]));
         i += 1;
     }
     x == state::known_rows(n) as u32
 }
 
 fn ranks_low(b: &[u8]) -> bool
-    requires { ⌜ length (now b) ≡ 512 ⌝ }
+    requires { ⌜ length (now b) ≡ block-bytes ⌝ }
     ensures { λ r. ⌜ r ≡ ranksLow (now (b .entry)) ⌝ }
 {
     let mut x: u8 = 0;
     let mut i: usize = 0;
     while i < 16 {
-        x = x | b[240 + i];
+        x = x | b[places::RANK_AT + i];
         i += 1;
     }
     x < 32
 }
 
 fn ranks_blank(b: &[u8], n: usize) -> bool
-    requires { ⌜ (length (now b) ≡ 512) × (n ≤ 16) ⌝ }
+    requires { ⌜ (length (now b) ≡ block-bytes) × (n ≤ 16) ⌝ }
     ensures { λ r. ⌜ r ≡ ranksBlank (now (b .entry)) n ⌝ }
 {
     let mut x: u8 = 0;
     let mut i = n;
     while i < 16 {
-        x = x | b[240 + i];
+        x = x | b[places::RANK_AT + i];
         i += 1;
     }
     x == 0
@@ -199,8 +205,8 @@ fn stamp_fault(quiet: bool, t: u16, clock: u32, stamp: u32) -> u32
 }
 
 fn stamps_good(b: &[u8], quiet: u16, clock: u32) -> bool
-    requires { ⌜ length (now b) ≡ 512 ⌝ }
-    ensures { λ r. ⌜ r ≡ stampsOk (now (b .entry)) quiet clock ⌝ }
+    requires { ⌜ length (now b) ≡ block-bytes ⌝ }
+    ensures { λ r. ⌜ r ≡ stampsGood (now (b .entry)) quiet clock ⌝ }
 {
     let mut x: u32 = 0;
     let mut i: usize = 0;
@@ -208,9 +214,9 @@ fn stamps_good(b: &[u8], quiet: u16, clock: u32) -> bool
         x = x
             | stamp_fault(
                 bit(quiet, i),
-                words::get16(b, 80 + 2 * i),
+                words::get16(b, places::T_AT + 2 * i),
                 clock,
-                words::get32(b, 176 + 4 * i),
+                words::get32(b, places::STAMP_AT + 4 * i),
             );
         i += 1;
     }
@@ -224,8 +230,8 @@ fn firm_fault(queued: bool, ran: bool, budget: u16, used: u16) -> u16
 }
 
 fn firms_good(b: &[u8], queued: u16, ran: u16) -> bool
-    requires { ⌜ length (now b) ≡ 512 ⌝ }
-    ensures { λ r. ⌜ r ≡ firmsOk (now (b .entry)) queued ran ⌝ }
+    requires { ⌜ length (now b) ≡ block-bytes ⌝ }
+    ensures { λ r. ⌜ r ≡ firmsGood (now (b .entry)) queued ran ⌝ }
 {
     let mut x: u16 = 0;
     let mut i: usize = 0;
@@ -234,8 +240,8 @@ fn firms_good(b: &[u8], queued: u16, ran: u16) -> bool
             | firm_fault(
                 bit(queued, i),
                 bit(ran, i),
-                words::get16(b, 256 + 2 * i),
-                words::get16(b, 272 + 2 * i),
+                words::get16(b, places::BUDGET_AT + 2 * i),
+                words::get16(b, places::USED_AT + 2 * i),
             );
         i += 1;
     }
@@ -250,14 +256,14 @@ fn first_ticket(next: u32, count: usize) -> u32
 }
 
 fn tickets_good(b: &[u8], queued: u16, first: u32) -> bool
-    requires { ⌜ length (now b) ≡ 512 ⌝ }
-    ensures { λ r. ⌜ r ≡ ticketsOk (now (b .entry)) queued first ⌝ }
+    requires { ⌜ length (now b) ≡ block-bytes ⌝ }
+    ensures { λ r. ⌜ r ≡ ticketsGood (now (b .entry)) queued first ⌝ }
 {
     let mut x: u32 = 0;
     let mut k = first;
     let mut i: usize = 0;
     while i < 8 {
-        x = x | (words::get32(b, 288 + 4 * i) ^ pick32(bit(queued, i), k, 0));
+        x = x | (words::get32(b, places::TICKET_AT + 4 * i) ^ pick32(bit(queued, i), k, 0));
         k = std::num::wrapping_add_u32(k, 1);
         i += 1;
     }
@@ -266,28 +272,28 @@ fn tickets_good(b: &[u8], queued: u16, first: u32) -> bool
 
 // The last runner, if a job, is open and has run.
 fn last_good(b: &[u8], last: usize, open: u16, count: usize) -> bool
-    requires { ⌜ length (now b) ≡ 512 ⌝ }
-    ensures { λ r. ⌜ r ≡ lastOk (now (b .entry)) last «open» count ⌝ }
+    requires { ⌜ length (now b) ≡ block-bytes ⌝ }
+    ensures { λ r. ⌜ r ≡ lastGood (now (b .entry)) last «open» count ⌝ }
 {
     if last < 16 {
-        return bit(open, last) & (0 < words::get16(b, 144 + 2 * last));
+        return bit(open, last) & (0 < words::get16(b, places::RUN_AT + 2 * last));
     }
     if last == 16 {
-        return (0 < count) & (0 < words::get16(b, 272));
+        return (0 < count) & (0 < words::get16(b, places::USED_AT));
     }
     last == 17
 }
 
 // The bytes kept free are 0.
 fn free_good(b: &[u8]) -> bool
-    requires { ⌜ length (now b) ≡ 512 ⌝ }
-    ensures { λ r. ⌜ r ≡ freeOk (now (b .entry)) ⌝ }
+    requires { ⌜ length (now b) ≡ block-bytes ⌝ }
+    ensures { λ r. ⌜ r ≡ freeGood (now (b .entry)) ⌝ }
 {
     let mut x: u8 = 0;
     let mut i: usize = 0;
-    while i < 192 {
-        x = x | b[320 + i];
+    while i < places::RESERVED_BYTES {
+        x = x | b[places::RESERVED_AT + i];
         i += 1;
     }
-    (x | b[3]) == 0
+    (x | b[places::FREE_AT]) == 0
 }

@@ -1,10 +1,12 @@
-// The 512-byte block, decoded: accepted exactly where it is the image of a state. docs/block.md has the layout.
-mod words; // words.rt: little-endian numbers, and arrays of them, read
+// The 512-byte block: decoded, where it is the image of a state, and written. docs/block.md has the layout.
+mod places; // places.rt: where each field stands, by name
+mod words; // words.rt: little-endian numbers, and arrays of them, read and put at a place
 mod checks; // checks.rt: is it the image of a state
+mod reading; // reading.rt: the rows and the state that stand in an image
+mod writing; // writing.rt: the parts of an image, put in their places
 
 ghost use mathlib.Core.Path.{_≡_};
-ghost use lib.ListN.{length};
-ghost use Rattle.block.specs.Layout.{rowsAt, stateAt};
+ghost use Rattle.block.specs.Layout.{encodedOn, writtenOn};
 ghost use Rattle.block.specs.Tests.{refusedBlock, decodedOf};
 use state::Rows;
 use state::State;
@@ -20,22 +22,40 @@ pub struct Decoded {
 pub fn decode(b: &[u8]) -> Decoded
     ensures { λ r. ⌜ r ≡ decodedOf (now (b .entry)) ⌝ }
 {
-    if b.len() != 512 {
-        return refused();
+    if b.len() != places::BLOCK_BYTES {
+        return refused_block();
     }
-    if checks::is_image(b) {
-        let rows = rows_at(b);
-        let state = state_at(b);
+    if checks::image_good(b) {
+        let rows = reading::rows_at(b);
+        let state = reading::state_at(b);
         return Decoded {
             ok: true,
             rows,
             state,
         };
     }
-    refused()
+    refused_block()
 }
 
-fn refused() -> Decoded
+// Writes the whole image over a block of 512 bytes, and nothing where the length is another.
+pub fn encode(rows: Rows, s: State, b: &mut [u8])
+    ensures { λ _. ⌜ now (b .exit) ≡ encodedOn (now (b .entry)) rows s ⌝ }
+{
+    if b.len() == places::BLOCK_BYTES {
+        writing::put_image(rows, s, b);
+    }
+}
+
+// Writes what a tick or an offer changes over the image of the state before, and nothing where the length is not 512.
+pub fn write_state(s: State, b: &mut [u8])
+    ensures { λ _. ⌜ now (b .exit) ≡ writtenOn (now (b .entry)) s ⌝ }
+{
+    if b.len() == places::BLOCK_BYTES {
+        writing::put_state(s, b);
+    }
+}
+
+fn refused_block() -> Decoded
     ensures { λ r. ⌜ r ≡ refusedBlock ⌝ }
 {
     let rows = no_rows();
@@ -47,6 +67,7 @@ fn refused() -> Decoded
     }
 }
 
+// A refusal gives no rows and no state: every number is 0.
 fn no_rows() -> Rows
     ensures { λ r. ⌜ r ≡ refusedBlock .rows ⌝ }
 {
@@ -80,49 +101,6 @@ fn no_state() -> State
         rested: 0,
         last: 0,
         count: 0,
-        run,
-        stamp,
-        budget,
-        used,
-        ticket,
-    }
-}
-
-fn rows_at(b: &[u8]) -> Rows
-    requires { ⌜ length (now b) ≡ 512 ⌝ }
-    ensures { λ r. ⌜ r ≡ rowsAt (now (b .entry)) ⌝ }
-{
-    let c = words::get16s(b, 16);
-    let d = words::get16s(b, 48);
-    let t = words::get16s(b, 80);
-    let u = words::get16s(b, 112);
-    let rank = words::get8s(b, 240);
-    Rows {
-        n: words::size(b[0]),
-        c,
-        d,
-        t,
-        u,
-        rank,
-    }
-}
-
-fn state_at(b: &[u8]) -> State
-    requires { ⌜ length (now b) ≡ 512 ⌝ }
-    ensures { λ r. ⌜ r ≡ stateAt (now (b .entry)) ⌝ }
-{
-    let run = words::get16s(b, 144);
-    let stamp = words::get32s(b, 176);
-    let budget = words::get16f(b, 256);
-    let used = words::get16f(b, 272);
-    let ticket = words::get32f(b, 288);
-    State {
-        clock: words::get32(b, 4),
-        next: words::get32(b, 8),
-        open: words::get16(b, 12),
-        rested: words::get16(b, 14),
-        last: words::size(b[2]),
-        count: words::size(b[1]),
         run,
         stamp,
         budget,

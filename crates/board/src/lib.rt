@@ -78,7 +78,7 @@ pub extern "C" fn heechstjer_plan(table: &[u8], block: &mut [u8]) -> PlanAnswer
             let plan = reading.plan;
             let rows = state::planned_rows(tb, plan);
             let state = state::fresh_state(rows.n);
-            image::encode(rows, state, block);
+            block::encode(rows, state, block);
             PlanAnswer {
                 from: 0,
                 size: 0,
@@ -107,7 +107,7 @@ pub extern "C" fn heechstjer_tick(block: &mut [u8], set: u16, flags: u8) -> Tick
         match verdict {
             Verdict::Stepped(answer) => {
                 let next = ticked.state;
-                image::write_state(next, block);
+                block::write_state(next, block);
                 stepped_tick(answer)
             }
             Verdict::Unknown(k) => refused_tick(12, row_number(k)),
@@ -138,7 +138,7 @@ pub extern "C" fn heechstjer_offer(block: &mut [u8], budget: u16, deadline: u16)
             };
         };
         let next = made.state;
-        image::write_state(next, block);
+        block::write_state(next, block);
         OfferAnswer { ticket, refusal: 0 }
     } else {
         OfferAnswer {

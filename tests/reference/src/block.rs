@@ -7,28 +7,26 @@ use crate::table::{check_rows, Row, MOST_ROWS};
 /// Bytes of a block.
 pub const BLOCK: usize = 512;
 
-/// The offsets of `docs/block.md`.
-pub mod at {
-    pub const ROWS: usize = 0;
-    pub const QUEUED: usize = 1;
-    pub const LAST: usize = 2;
-    pub const FREE: usize = 3;
-    pub const CLOCK: usize = 4;
-    pub const NEXT_TICKET: usize = 8;
-    pub const OPEN: usize = 12;
-    pub const RESTED: usize = 14;
-    pub const C: usize = 16;
-    pub const D: usize = 48;
-    pub const T: usize = 80;
-    pub const U: usize = 112;
-    pub const RUN: usize = 144;
-    pub const STAMP: usize = 176;
-    pub const RANK: usize = 240;
-    pub const FIRM_BUDGET: usize = 256;
-    pub const FIRM_RUN: usize = 272;
-    pub const FIRM_TICKET: usize = 288;
-    pub const RESERVED: usize = 320;
-}
+// The offsets of `docs/block.md`, by the names that it gives them.
+pub const N_AT: usize = 0;
+pub const COUNT_AT: usize = 1;
+pub const LAST_AT: usize = 2;
+pub const FREE_AT: usize = 3;
+pub const CLOCK_AT: usize = 4;
+pub const NEXT_AT: usize = 8;
+pub const OPEN_AT: usize = 12;
+pub const RESTED_AT: usize = 14;
+pub const C_AT: usize = 16;
+pub const D_AT: usize = 48;
+pub const T_AT: usize = 80;
+pub const U_AT: usize = 112;
+pub const RUN_AT: usize = 144;
+pub const STAMP_AT: usize = 176;
+pub const RANK_AT: usize = 240;
+pub const BUDGET_AT: usize = 256;
+pub const USED_AT: usize = 272;
+pub const TICKET_AT: usize = 288;
+pub const RESERVED_AT: usize = 320;
 
 const LAST_FIRM: u8 = 16;
 const LAST_NOBODY: u8 = 17;
@@ -41,17 +39,17 @@ pub fn decode(block: &[u8]) -> Option<Station> {
     if block.len() != BLOCK {
         return None;
     }
-    let n = usize::from(block[at::ROWS]);
-    let queued = usize::from(block[at::QUEUED]);
+    let n = usize::from(block[N_AT]);
+    let queued = usize::from(block[COUNT_AT]);
     if n > MOST_ROWS || queued > MOST_FIRM {
         return None;
     }
-    let time = ROLL_OVER + number(block, at::CLOCK, 4);
-    let acceptances = ROLL_OVER + number(block, at::NEXT_TICKET, 4);
+    let time = ROLL_OVER + number(block, CLOCK_AT, 4);
+    let acceptances = ROLL_OVER + number(block, NEXT_AT, 4);
     let rows = (0..n).map(|index| hard_row(block, index, time)).collect();
     let first = acceptances - queued as u128;
     let firm = (0..queued).map(|index| firm_job(block, index, first + index as u128)).collect();
-    let last = match block[at::LAST] {
+    let last = match block[LAST_AT] {
         LAST_NOBODY => Last::NoJob,
         LAST_FIRM => Last::Firm,
         row => Last::Hard(usize::from(row) + 1),
@@ -67,28 +65,28 @@ pub fn decode(block: &[u8]) -> Option<Station> {
 fn hard_row(block: &[u8], index: usize, time: u128) -> HardRow {
     let entry = |offset: usize| number(block, offset + 2 * index, 2);
     let row = Row {
-        c: entry(at::C) as u16,
-        d: entry(at::D) as u16,
-        t: entry(at::T) as u16,
-        rank: block[at::RANK + index],
+        c: entry(C_AT) as u16,
+        d: entry(D_AT) as u16,
+        t: entry(T_AT) as u16,
+        rank: block[RANK_AT + index],
     };
-    let stamp = number(block, at::STAMP + 4 * index, 4);
-    let rested = in_set(number(block, at::RESTED, 2), index);
+    let stamp = number(block, STAMP_AT + 4 * index, 4);
+    let rested = in_set(number(block, RESTED_AT, 2), index);
     let age = if rested { u128::from(row.t) } else { (time - stamp) % ROLL_OVER };
     let release = time - age;
-    let open = in_set(number(block, at::OPEN, 2), index);
+    let open = in_set(number(block, OPEN_AT, 2), index);
     HardRow {
         row,
-        promotion: entry(at::U),
+        promotion: entry(U_AT),
         last_release: Some(release),
-        open: open.then(|| HardJob { release, run: entry(at::RUN) }),
+        open: open.then(|| HardJob { release, run: entry(RUN_AT) }),
     }
 }
 
 /// Entry `index` of the queue; `accepted` is the number of its acceptance.
 fn firm_job(block: &[u8], index: usize, accepted: u128) -> FirmJob {
     let entry = |offset: usize| number(block, offset + 2 * index, 2);
-    FirmJob { number: accepted, budget: entry(at::FIRM_BUDGET), run: entry(at::FIRM_RUN) }
+    FirmJob { number: accepted, budget: entry(BUDGET_AT), run: entry(USED_AT) }
 }
 
 /// Document 01's conditions on the state of an image.
@@ -133,40 +131,40 @@ fn run_as_far_as_may_be(station: &Station) -> bool {
 /// The image of a station.
 pub fn encode(station: &Station) -> [u8; BLOCK] {
     let mut block = [0; BLOCK];
-    block[at::ROWS] = station.rows.len() as u8;
-    block[at::QUEUED] = station.firm.len() as u8;
-    block[at::LAST] = match station.last {
+    block[N_AT] = station.rows.len() as u8;
+    block[COUNT_AT] = station.firm.len() as u8;
+    block[LAST_AT] = match station.last {
         Last::None | Last::NoJob => LAST_NOBODY,
         Last::Firm => LAST_FIRM,
         Last::Hard(row) => (row - 1) as u8,
     };
-    put(&mut block, at::CLOCK, 4, station.time % ROLL_OVER);
-    put(&mut block, at::NEXT_TICKET, 4, station.acceptances % ROLL_OVER);
+    put(&mut block, CLOCK_AT, 4, station.time % ROLL_OVER);
+    put(&mut block, NEXT_AT, 4, station.acceptances % ROLL_OVER);
     let (mut open, mut rested) = (0, 0);
     for (index, hard) in station.rows.iter().enumerate() {
         let two = 2 * index;
-        put(&mut block, at::C + two, 2, u128::from(hard.row.c));
-        put(&mut block, at::D + two, 2, u128::from(hard.row.d));
-        put(&mut block, at::T + two, 2, u128::from(hard.row.t));
-        put(&mut block, at::U + two, 2, hard.promotion);
-        block[at::RANK + index] = hard.row.rank;
+        put(&mut block, C_AT + two, 2, u128::from(hard.row.c));
+        put(&mut block, D_AT + two, 2, u128::from(hard.row.d));
+        put(&mut block, T_AT + two, 2, u128::from(hard.row.t));
+        put(&mut block, U_AT + two, 2, hard.promotion);
+        block[RANK_AT + index] = hard.row.rank;
         if let Some(job) = &hard.open {
             open += bit(index);
-            put(&mut block, at::RUN + two, 2, job.run);
+            put(&mut block, RUN_AT + two, 2, job.run);
         }
         match hard.last_release {
             Some(release) if !hard.rested(station.time) => {
-                put(&mut block, at::STAMP + 4 * index, 4, release % ROLL_OVER);
+                put(&mut block, STAMP_AT + 4 * index, 4, release % ROLL_OVER);
             }
             _ => rested += bit(index),
         }
     }
-    put(&mut block, at::OPEN, 2, open);
-    put(&mut block, at::RESTED, 2, rested);
+    put(&mut block, OPEN_AT, 2, open);
+    put(&mut block, RESTED_AT, 2, rested);
     for (index, job) in station.firm.iter().enumerate() {
-        put(&mut block, at::FIRM_BUDGET + 2 * index, 2, job.budget);
-        put(&mut block, at::FIRM_RUN + 2 * index, 2, job.run);
-        put(&mut block, at::FIRM_TICKET + 4 * index, 4, job.number % ROLL_OVER);
+        put(&mut block, BUDGET_AT + 2 * index, 2, job.budget);
+        put(&mut block, USED_AT + 2 * index, 2, job.run);
+        put(&mut block, TICKET_AT + 4 * index, 4, job.number % ROLL_OVER);
     }
     block
 }
@@ -247,43 +245,43 @@ mod tests {
 
     #[test]
     fn what_means_nothing_must_be_zero() {
-        for offset in [at::FREE, at::RESERVED, 511, at::C + 4, at::STAMP + 8, at::FIRM_TICKET + 8] {
+        for offset in [FREE_AT, RESERVED_AT, 511, C_AT + 4, STAMP_AT + 8, TICKET_AT + 8] {
             assert_eq!(damaged(offset, 1), None, "byte {offset}");
         }
-        assert_eq!(damaged(at::OPEN, 7), None);
-        assert_eq!(damaged(at::RESTED + 1, 1), None);
+        assert_eq!(damaged(OPEN_AT, 7), None);
+        assert_eq!(damaged(RESTED_AT + 1, 1), None);
     }
 
     #[test]
     fn each_condition_counts() {
-        assert_eq!(damaged(at::ROWS, 17), None);
-        assert_eq!(damaged(at::QUEUED, 9), None);
-        assert_eq!(damaged(at::C, 0), None);
-        assert_eq!(damaged(at::D, 1), None);
-        assert_eq!(damaged(at::T, 5), None);
-        assert_eq!(damaged(at::RANK, 0), None);
-        assert_eq!(damaged(at::U, 5), None);
-        assert_eq!(damaged(at::STAMP, 2), None);
-        assert_eq!(damaged(at::FIRM_BUDGET, 0), None);
-        assert_eq!(damaged(at::FIRM_TICKET, 9), None);
-        assert_eq!(damaged(at::NEXT_TICKET, 3), None);
-        assert_eq!(damaged(at::LAST, 0), None);
-        assert_eq!(damaged(at::LAST, LAST_FIRM), None);
-        assert_eq!(damaged(at::LAST, 2), None);
-        assert_eq!(damaged(at::LAST, 18), None);
-        assert_eq!(damaged(at::RUN, 2), None);
-        assert_eq!(damaged(at::RUN + 2, 6), None);
-        assert_eq!(damaged(at::FIRM_RUN, 1), None);
+        assert_eq!(damaged(N_AT, 17), None);
+        assert_eq!(damaged(COUNT_AT, 9), None);
+        assert_eq!(damaged(C_AT, 0), None);
+        assert_eq!(damaged(D_AT, 1), None);
+        assert_eq!(damaged(T_AT, 5), None);
+        assert_eq!(damaged(RANK_AT, 0), None);
+        assert_eq!(damaged(U_AT, 5), None);
+        assert_eq!(damaged(STAMP_AT, 2), None);
+        assert_eq!(damaged(BUDGET_AT, 0), None);
+        assert_eq!(damaged(TICKET_AT, 9), None);
+        assert_eq!(damaged(NEXT_AT, 3), None);
+        assert_eq!(damaged(LAST_AT, 0), None);
+        assert_eq!(damaged(LAST_AT, LAST_FIRM), None);
+        assert_eq!(damaged(LAST_AT, 2), None);
+        assert_eq!(damaged(LAST_AT, 18), None);
+        assert_eq!(damaged(RUN_AT, 2), None);
+        assert_eq!(damaged(RUN_AT + 2, 6), None);
+        assert_eq!(damaged(USED_AT, 1), None);
     }
 
     #[test]
     fn other_states_are_accepted() {
-        assert!(damaged(at::U, 3).is_some());
-        assert!(damaged(at::RUN, 1).is_some());
-        assert!(damaged(at::RUN + 2, 5).is_some());
-        assert!(damaged(at::FIRM_BUDGET, 9).is_some());
-        assert!(damaged(at::LAST, LAST_NOBODY).is_some());
-        assert!(damaged(at::CLOCK, 5).is_some());
+        assert!(damaged(U_AT, 3).is_some());
+        assert!(damaged(RUN_AT, 1).is_some());
+        assert!(damaged(RUN_AT + 2, 5).is_some());
+        assert!(damaged(BUDGET_AT, 9).is_some());
+        assert!(damaged(LAST_AT, LAST_NOBODY).is_some());
+        assert!(damaged(CLOCK_AT, 5).is_some());
     }
 
     #[test]
@@ -296,8 +294,8 @@ mod tests {
             hard.open.as_mut().unwrap().release += sleep;
         }
         let block = encode(&station);
-        assert_eq!(block[at::CLOCK..at::CLOCK + 4], [0; 4]);
-        assert_eq!(block[at::STAMP..at::STAMP + 4], [0xff; 4]);
+        assert_eq!(block[CLOCK_AT..CLOCK_AT + 4], [0; 4]);
+        assert_eq!(block[STAMP_AT..STAMP_AT + 4], [0xff; 4]);
         assert_eq!(encode(&decode(&block).unwrap()), block);
     }
 }

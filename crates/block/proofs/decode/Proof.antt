@@ -6,15 +6,15 @@ use borrow.Author.Needs.{needs}
 use Rattle.block.proofs.decode.Statement.{statement}
 use Rattle.block.proofs.decode.Tie as tie
 
-refused-requires : tie.Need-refused-requires
-refused-requires c κs = search needs
+refused-block-requires : tie.Need-refused-block-requires
+refused-block-requires c κs = search needs
 
 returns : tie.Need-returns
 unfolding decodedOf
-returns c = rw (ne-eqb _ _ (c .before .if1 .taken)) (c .refused .ensures)
+returns c = rw (ne-eqb _ _ (c .before .if1 .taken)) (c .refused-block .ensures)
 
-is-image-requires : tie.Need-is-image-requires
-is-image-requires c κs = search needs
+image-good-requires : tie.Need-image-good-requires
+image-good-requires c κs = search needs
 
 rows-at-requires : tie.Need-rows-at-requires
 rows-at-requires c κs = search needs
@@ -26,26 +26,26 @@ returns-2 : tie.Need-returns-2
 unfolding decodedOf
 returns-2 c =
     let l = c .before .before .before in
-    rw (eq-eqb _ _ (l .before .if1 .left), sym (l .is-image .ensures) ∙ c .before .before .if2 .taken, c .state-at .ensures, c .before .rows-at .ensures)
+    rw (eq-eqb _ _ (l .before .if1 .left), sym (l .image-good .ensures) ∙ c .before .before .if2 .taken, c .state-at .ensures, c .before .rows-at .ensures)
 
-refused-requires-2 : tie.Need-refused-requires-2
-refused-requires-2 c κs = search needs
+refused-block-requires-2 : tie.Need-refused-block-requires-2
+refused-block-requires-2 c κs = search needs
 
 returns-3 : tie.Need-returns-3
 unfolding decodedOf
 returns-3 c =
     let l = c .before .before in
-    rw (eq-eqb _ _ (l .before .if1 .left), sym (l .is-image .ensures) ∙ c .before .if2 .left) (c .refused2 .ensures)
+    rw (eq-eqb _ _ (l .before .if1 .left), sym (l .image-good .ensures) ∙ c .before .if2 .left) (c .refused-block2 .ensures)
 
 pub decode-spec : {M : Type 1} → statement M
 decode-spec =
     tie.close
     (tie.spec
-    refused-requires
+    refused-block-requires
     returns
-    is-image-requires
+    image-good-requires
     rows-at-requires
     state-at-requires
     returns-2
-    refused-requires-2
+    refused-block-requires-2
     returns-3)

@@ -3,14 +3,15 @@ use Prim.Native.Nat.{_-_, _≤_}
 use mathlib.Core.Path.{_≡_, sym, _∙_}
 use lib.ListN.{length}
 use native.Mathlib.Omega.{arith}
-use Rattle.block.specs.Tests.{firmFaultAt, firmsOk, orOf}
+use Rattle.block.specs.Places.{block-bytes}
+use Rattle.block.specs.Tests.{firmFaultAt, firmsGood, orOf}
 use Rattle.block.proofs.Ors.{or-next, or-start}
 use borrow.Author.Needs.{needs}
 use Rattle.block.proofs.checks.firms_good.Statement.{statement}
 use Rattle.block.proofs.checks.firms_good.Tie as tie
 
 abbrev Inv-loop : tie.InvT-loop
-Inv-loop b queued ran x₀ i₀ x i = (i ≤ 8) × (length b ≡ 512) × (x ≡ orOf (firmFaultAt b queued ran) i)
+Inv-loop b queued ran x₀ i₀ x i = (i ≤ 8) × (length b ≡ block-bytes) × (x ≡ orOf (firmFaultAt b queued ran) i)
 
 abbrev μ-loop : tie.MeasureT-loop
 μ-loop b queued ran x₀ i₀ x i = 8 - i
@@ -60,7 +61,7 @@ loop-again c =
     (search needs, search needs, or-next f (b .loop .i) (b .loop .x) (c .firm-fault .result) (b .loop .inv .2) e)
 
 returns : tie.Need-returns Inv-loop μ-loop
-unfolding firmsOk
+unfolding firmsGood
 returns c =
     let l = c .before .loop in
     let e : l .i ≡ 8 = omega arith in

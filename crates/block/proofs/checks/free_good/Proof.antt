@@ -4,17 +4,18 @@ use mathlib.Core.Path.{_≡_, refl, sym}
 use lib.ListN.{length}
 use native.Mathlib.Omega.{arith}
 use Rattle.state.specs.Meaning.{entry}
-use Rattle.block.specs.Tests.{freeOk, orOf}
+use Rattle.block.specs.Places.{block-bytes, reserved-at, reserved-bytes}
+use Rattle.block.specs.Tests.{freeGood, orOf}
 use Rattle.block.proofs.Ors.{or-next, or-start}
 use borrow.Author.Needs.{needs}
 use Rattle.block.proofs.checks.free_good.Statement.{statement}
 use Rattle.block.proofs.checks.free_good.Tie as tie
 
 abbrev Inv-loop : tie.InvT-loop
-Inv-loop b x₀ i₀ x i = (i ≤ 192) × (length b ≡ 512) × (x ≡ orOf (λ k. entry b (320 + k)) i)
+Inv-loop b x₀ i₀ x i = (i ≤ reserved-bytes) × (length b ≡ block-bytes) × (x ≡ orOf (λ k. entry b (reserved-at + k)) i)
 
 abbrev μ-loop : tie.MeasureT-loop
-μ-loop b x₀ i₀ x i = 192 - i
+μ-loop b x₀ i₀ x i = reserved-bytes - i
 
 loop-holds : tie.Need-loop-holds Inv-loop μ-loop
 loop-holds c = (search needs, search needs, sym (or-start _))
@@ -35,16 +36,16 @@ loop-again : tie.Need-loop-again Inv-loop μ-loop
 loop-again c =
     let l = c .before .before .loop in
     let a = c .before .before .before .args in
-    (search needs, search needs, or-next (λ k. entry (a .b .now) (320 + k)) (l .i) (l .x) _ (l .inv .2) refl)
+    (search needs, search needs, or-next (λ k. entry (a .b .now) (reserved-at + k)) (l .i) (l .x) _ (l .inv .2) refl)
 
 shared-slice-read-result : tie.Need-shared-slice-read-result Inv-loop μ-loop
 shared-slice-read-result c = search needs
 
 returns : tie.Need-returns Inv-loop μ-loop
-unfolding freeOk
+unfolding freeGood
 returns c =
     let l = c .before .before .loop in
-    let e : l .i ≡ 192 = omega arith in
+    let e : l .i ≡ reserved-bytes = omega arith in
     rw (rw e at (l .inv .2))
 
 pub free-good-spec : {M : Type 1} → statement M

@@ -1,5 +1,5 @@
 -- `checks::jobs_good` meets its contract. Assumes nothing.
-use Rattle.block.specs.Tests.{jobsTest}
+use Rattle.block.specs.Tests.{jobsGood}
 use borrow.Author.Needs.{needs}
 use Rattle.block.proofs.checks.jobs_good.Statement.{statement}
 use Rattle.block.proofs.checks.jobs_good.Tie as tie
@@ -14,7 +14,7 @@ rows-good-requires : tie.Need-rows-good-requires
 rows-good-requires c κs = search needs
 
 returns : tie.Need-returns
-unfolding jobsTest
+unfolding jobsGood
 returns c = rw (c .rows-good .ensures, c .before .row-mark .ensures, c .before .before .get16 .ensures)
 
 pub jobs-good-spec : {M : Type 1} → statement M

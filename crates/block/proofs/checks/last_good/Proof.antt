@@ -1,6 +1,6 @@
 -- `checks::last_good` meets its contract: each way out is a case of the definition. Assumes nothing.
 use borrow.Author.Tests.{eq-eqb, le-ltb, lt-ltb, ne-eqb}
-use Rattle.block.specs.Tests.{lastOk}
+use Rattle.block.specs.Tests.{lastGood}
 use borrow.Author.Needs.{needs}
 use Rattle.block.proofs.checks.last_good.Statement.{statement}
 use Rattle.block.proofs.checks.last_good.Tie as tie
@@ -18,18 +18,18 @@ get16-requires : tie.Need-get16-requires
 get16-requires c κs = search needs
 
 returns : tie.Need-returns
-unfolding lastOk
+unfolding lastGood
 returns c = rw (lt-ltb _ _ (c .before .before .if1 .taken), c .before .bit .ensures, c .get16 .ensures)
 
 get16-requires-2 : tie.Need-get16-requires-2
 get16-requires-2 c κs = search needs
 
 returns-2 : tie.Need-returns-2
-unfolding lastOk
+unfolding lastGood
 returns-2 c = rw (le-ltb _ _ (c .before .before .if1 .left), eq-eqb _ _ (c .before .if2 .taken), c .get162 .ensures)
 
 returns-3 : tie.Need-returns-3
-unfolding lastOk
+unfolding lastGood
 returns-3 c = rw (le-ltb _ _ (c .before .if1 .left), ne-eqb _ _ (c .if2 .left))
 
 pub last-good-spec : {M : Type 1} → statement M

@@ -1,5 +1,5 @@
 -- `checks::queue_good` meets its contract. Assumes nothing.
-use Rattle.block.specs.Tests.{queueTest}
+use Rattle.block.specs.Tests.{queueGood}
 use borrow.Author.Needs.{needs}
 use Rattle.block.proofs.checks.queue_good.Statement.{statement}
 use Rattle.block.proofs.checks.queue_good.Tie as tie
@@ -23,7 +23,7 @@ tickets-good-requires : tie.Need-tickets-good-requires
 tickets-good-requires c κs = search needs
 
 returns : tie.Need-returns
-unfolding queueTest
+unfolding queueGood
 returns c =
     let firms = c .before .before .before in
     rw (c .tickets-good .ensures, c .before .first-ticket .ensures, c .before .before .get32 .ensures, firms .firms-good .ensures, firms .before .firm-mark .ensures, firms .before .before .known-rows .ensures)

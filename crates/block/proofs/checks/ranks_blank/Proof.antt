@@ -4,6 +4,7 @@ use mathlib.Core.Path.{_≡_, sym}
 use borrow.Author.Tests.{le-ltb, lt-ltb}
 use lib.ListN.{length}
 use native.Mathlib.Omega.{arith}
+use Rattle.block.specs.Places.{block-bytes}
 use Rattle.block.specs.Tests.{orOf, pastFault, ranksBlank}
 use Rattle.block.proofs.Ors.{faultless, or-next}
 use borrow.Author.Needs.{needs}
@@ -11,7 +12,7 @@ use Rattle.block.proofs.checks.ranks_blank.Statement.{statement}
 use Rattle.block.proofs.checks.ranks_blank.Tie as tie
 
 abbrev Inv-loop : tie.InvT-loop
-Inv-loop b n x₀ i₀ x i = (n ≤ i) × (i ≤ 16) × (length b ≡ 512) × (x ≡ orOf (pastFault b n) i)
+Inv-loop b n x₀ i₀ x i = (n ≤ i) × (i ≤ 16) × (length b ≡ block-bytes) × (x ≡ orOf (pastFault b n) i)
 
 abbrev μ-loop : tie.MeasureT-loop
 μ-loop b n x₀ i₀ x i = 16 - i

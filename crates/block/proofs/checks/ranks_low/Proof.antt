@@ -4,6 +4,7 @@ use mathlib.Core.Path.{_≡_, refl, sym}
 use lib.ListN.{length}
 use native.Mathlib.Omega.{arith}
 use Rattle.state.specs.Meaning.{entry}
+use Rattle.block.specs.Places.{block-bytes, rank-at}
 use Rattle.block.specs.Tests.{orOf, ranksLow}
 use Rattle.block.proofs.Ors.{or-next, or-start}
 use borrow.Author.Needs.{needs}
@@ -11,7 +12,7 @@ use Rattle.block.proofs.checks.ranks_low.Statement.{statement}
 use Rattle.block.proofs.checks.ranks_low.Tie as tie
 
 abbrev Inv-loop : tie.InvT-loop
-Inv-loop b x₀ i₀ x i = (i ≤ 16) × (length b ≡ 512) × (x ≡ orOf (λ k. entry b (240 + k)) i)
+Inv-loop b x₀ i₀ x i = (i ≤ 16) × (length b ≡ block-bytes) × (x ≡ orOf (λ k. entry b (rank-at + k)) i)
 
 abbrev μ-loop : tie.MeasureT-loop
 μ-loop b x₀ i₀ x i = 16 - i
@@ -35,7 +36,7 @@ loop-again : tie.Need-loop-again Inv-loop μ-loop
 loop-again c =
     let l = c .before .before .loop in
     let a = c .before .before .before .args in
-    (search needs, search needs, or-next (λ k. entry (a .b .now) (240 + k)) (l .i) (l .x) _ (l .inv .2) refl)
+    (search needs, search needs, or-next (λ k. entry (a .b .now) (rank-at + k)) (l .i) (l .x) _ (l .inv .2) refl)
 
 returns : tie.Need-returns Inv-loop μ-loop
 unfolding ranksLow

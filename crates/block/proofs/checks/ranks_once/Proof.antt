@@ -3,6 +3,7 @@ use Prim.Native.Nat.{_-_, _≤_}
 use mathlib.Core.Path.{_≡_, sym, _∙_}
 use lib.ListN.{length}
 use native.Mathlib.Omega.{arith}
+use Rattle.block.specs.Places.{block-bytes}
 use Rattle.block.specs.Tests.{orOf, rankBit, ranksOnce}
 use Rattle.block.proofs.Ors.{or-next, or-start}
 use borrow.Author.Needs.{needs}
@@ -10,7 +11,7 @@ use Rattle.block.proofs.checks.ranks_once.Statement.{statement}
 use Rattle.block.proofs.checks.ranks_once.Tie as tie
 
 abbrev Inv-loop : tie.InvT-loop
-Inv-loop b n x₀ i₀ x i = (i ≤ n) × (length b ≡ 512) × (x ≡ orOf (rankBit b) i)
+Inv-loop b n x₀ i₀ x i = (i ≤ n) × (length b ≡ block-bytes) × (x ≡ orOf (rankBit b) i)
 
 abbrev μ-loop : tie.MeasureT-loop
 μ-loop b n x₀ i₀ x i = n - i

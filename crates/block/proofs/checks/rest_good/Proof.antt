@@ -1,5 +1,5 @@
 -- `checks::rest_good` meets its contract. Assumes nothing.
-use Rattle.block.specs.Tests.{restTest}
+use Rattle.block.specs.Tests.{restGood}
 use borrow.Author.Needs.{needs}
 use Rattle.block.proofs.checks.rest_good.Statement.{statement}
 use Rattle.block.proofs.checks.rest_good.Tie as tie
@@ -14,7 +14,7 @@ free-good-requires : tie.Need-free-good-requires
 free-good-requires c κs = search needs
 
 returns : tie.Need-returns
-unfolding restTest
+unfolding restGood
 returns c = rw (c .free-good .ensures, c .before .last-good .ensures, c .before .before .get16 .ensures)
 
 pub rest-good-spec : {M : Type 1} → statement M

@@ -3,14 +3,15 @@ use Prim.Native.Nat.{_-_, _≤_}
 use mathlib.Core.Path.{_≡_, sym, _∙_}
 use lib.ListN.{length}
 use native.Mathlib.Omega.{arith}
-use Rattle.block.specs.Tests.{orOf, rowFaultAt, rowsOk}
+use Rattle.block.specs.Places.{block-bytes}
+use Rattle.block.specs.Tests.{orOf, hardFaultAt, rowsGood}
 use Rattle.block.proofs.Ors.{or-next, or-start}
 use borrow.Author.Needs.{needs}
 use Rattle.block.proofs.checks.rows_good.Statement.{statement}
 use Rattle.block.proofs.checks.rows_good.Tie as tie
 
 abbrev Inv-loop : tie.InvT-loop
-Inv-loop b live «open» ran x₀ i₀ x i = (i ≤ 16) × (length b ≡ 512) × (x ≡ orOf (rowFaultAt b live «open» ran) i)
+Inv-loop b live «open» ran x₀ i₀ x i = (i ≤ 16) × (length b ≡ block-bytes) × (x ≡ orOf (hardFaultAt b live «open» ran) i)
 
 abbrev μ-loop : tie.MeasureT-loop
 μ-loop b live «open» ran x₀ i₀ x i = 16 - i
@@ -72,8 +73,8 @@ add-get16-5 c = search needs
 get16-requires-5 : tie.Need-get16-requires-5 Inv-loop μ-loop
 get16-requires-5 c κs = search needs
 
-row-fault-requires : tie.Need-row-fault-requires Inv-loop μ-loop
-row-fault-requires c κs = search needs
+hard-fault-requires : tie.Need-hard-fault-requires Inv-loop μ-loop
+hard-fault-requires c κs = search needs
 
 add-i : tie.Need-add-i Inv-loop μ-loop
 add-i c = search needs
@@ -85,8 +86,8 @@ loop-again : tie.Need-loop-again Inv-loop μ-loop
 loop-again c =
     let b = c .before .before .before .before .before .before .before .before .before .before in
     let a = b .before .before .args in
-    let f = rowFaultAt (a .b .now) (a .live) (a .«open») (a .ran) in
-    let e : c .row-fault .result ≡ f (b .loop .i) = rw (
+    let f = hardFaultAt (a .b .now) (a .live) (a .«open») (a .ran) in
+    let e : c .hard-fault .result ≡ f (b .loop .i) = rw (
       ← c .before .before .before .before .before .before .before .before .bit .ensures,
       ← c .before .before .before .before .before .before .before .bit2 .ensures,
       ← c .before .before .before .before .before .before .bit3 .ensures,
@@ -95,11 +96,11 @@ loop-again c =
       ← c .before .before .before .get163 .ensures,
       ← c .before .before .get164 .ensures,
       ← c .before .get165 .ensures,
-    ) (c .row-fault .ensures) in
-    (search needs, search needs, or-next f (b .loop .i) (b .loop .x) (c .row-fault .result) (b .loop .inv .2) e)
+    ) (c .hard-fault .ensures) in
+    (search needs, search needs, or-next f (b .loop .i) (b .loop .x) (c .hard-fault .result) (b .loop .inv .2) e)
 
 returns : tie.Need-returns Inv-loop μ-loop
-unfolding rowsOk
+unfolding rowsGood
 returns c =
     let l = c .before .loop in
     let e : l .i ≡ 16 = omega arith in
@@ -130,7 +131,7 @@ rows-good-spec =
     mul-get16-5
     add-get16-5
     get16-requires-5
-    row-fault-requires
+    hard-fault-requires
     add-i
     loop-less
     loop-again

@@ -3,14 +3,15 @@ use Prim.Native.Nat.{_-_, _≤_}
 use mathlib.Core.Path.{_≡_, sym, _∙_}
 use lib.ListN.{length}
 use native.Mathlib.Omega.{arith}
-use Rattle.block.specs.Tests.{orOf, stampFaultAt, stampsOk}
+use Rattle.block.specs.Places.{block-bytes}
+use Rattle.block.specs.Tests.{orOf, stampFaultAt, stampsGood}
 use Rattle.block.proofs.Ors.{or-next, or-start}
 use borrow.Author.Needs.{needs}
 use Rattle.block.proofs.checks.stamps_good.Statement.{statement}
 use Rattle.block.proofs.checks.stamps_good.Tie as tie
 
 abbrev Inv-loop : tie.InvT-loop
-Inv-loop b quiet clock x₀ i₀ x i = (i ≤ 16) × (length b ≡ 512) × (x ≡ orOf (stampFaultAt b quiet clock) i)
+Inv-loop b quiet clock x₀ i₀ x i = (i ≤ 16) × (length b ≡ block-bytes) × (x ≡ orOf (stampFaultAt b quiet clock) i)
 
 abbrev μ-loop : tie.MeasureT-loop
 μ-loop b quiet clock x₀ i₀ x i = 16 - i
@@ -57,7 +58,7 @@ loop-again c =
     (search needs, search needs, or-next f (b .loop .i) (b .loop .x) (c .stamp-fault .result) (b .loop .inv .2) e)
 
 returns : tie.Need-returns Inv-loop μ-loop
-unfolding stampsOk
+unfolding stampsGood
 returns c =
     let l = c .before .loop in
     let e : l .i ≡ 16 = omega arith in

@@ -1,5 +1,5 @@
 -- `checks::table_good` meets its contract. Assumes nothing.
-use Rattle.block.specs.Tests.{tableTest}
+use Rattle.block.specs.Tests.{tableGood}
 use borrow.Author.Needs.{needs}
 use Rattle.block.proofs.checks.table_good.Statement.{statement}
 use Rattle.block.proofs.checks.table_good.Tie as tie
@@ -14,7 +14,7 @@ ranks-blank-requires : tie.Need-ranks-blank-requires
 ranks-blank-requires c κs = search needs
 
 returns : tie.Need-returns
-unfolding tableTest
+unfolding tableGood
 returns c = rw (c .ranks-blank .ensures, c .before .ranks-low .ensures, c .before .before .ranks-once .ensures)
 
 pub table-good-spec : {M : Type 1} → statement M

@@ -5,14 +5,15 @@ use lib.ListN.{length}
 use native.Mathlib.Omega.{arith}
 use mathlib.Core.Bool.{cond}
 use Rattle.rules.specs.Tick.{bit}
-use Rattle.block.specs.Tests.{orOf, ticketFaultAt, ticketsOk}
+use Rattle.block.specs.Places.{block-bytes}
+use Rattle.block.specs.Tests.{orOf, ticketFaultAt, ticketsGood}
 use Rattle.block.proofs.Ors.{or-next, or-start}
 use borrow.Author.Needs.{needs}
 use Rattle.block.proofs.checks.tickets_good.Statement.{statement}
 use Rattle.block.proofs.checks.tickets_good.Tie as tie
 
 abbrev Inv-loop : tie.InvT-loop
-Inv-loop b queued first x₀ k₀ i₀ x k i = (i ≤ 8) × (length b ≡ 512) × (k ≡ (first + i) % 2 ^ 32) × (x ≡ orOf (ticketFaultAt b queued first) i)
+Inv-loop b queued first x₀ k₀ i₀ x k i = (i ≤ 8) × (length b ≡ block-bytes) × (k ≡ (first + i) % 2 ^ 32) × (x ≡ orOf (ticketFaultAt b queued first) i)
 
 abbrev μ-loop : tie.MeasureT-loop
 μ-loop b queued first x₀ k₀ i₀ x k i = 8 - i
@@ -58,7 +59,7 @@ loop-again c =
     )
 
 returns : tie.Need-returns Inv-loop μ-loop
-unfolding ticketsOk
+unfolding ticketsGood
 returns c =
     let l = c .before .loop in
     let e : l .i ≡ 8 = omega arith in

@@ -1,5 +1,5 @@
 -- `checks::times_good` meets its contract. Assumes nothing.
-use Rattle.block.specs.Tests.{timesTest}
+use Rattle.block.specs.Tests.{timesGood}
 use borrow.Author.Needs.{needs}
 use Rattle.block.proofs.checks.times_good.Statement.{statement}
 use Rattle.block.proofs.checks.times_good.Tie as tie
@@ -14,7 +14,7 @@ stamps-good-requires : tie.Need-stamps-good-requires
 stamps-good-requires c κs = search needs
 
 returns : tie.Need-returns
-unfolding timesTest
+unfolding timesGood
 returns c = rw (c .stamps-good .ensures, c .before .get32 .ensures, c .before .before .get16 .ensures)
 
 pub times-good-spec : {M : Type 1} → statement M

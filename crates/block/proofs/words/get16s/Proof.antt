@@ -1,22 +1,22 @@
 -- `words::get16s` meets its contract: one number after another is read. Assumes nothing.
-use Prim.Native.Nat.{_+_, _*_, _-_, _≤_}
-use mathlib.Core.Path.{_≡_, refl, sym}
-use lib.ListN.{length, take, length-set}
+use Prim.Native.Nat.{_*_, _+_, _-_, _≤_}
+use mathlib.Core.Path.{_≡_, refl, sym, _∙_}
+use lib.ListN.{length, length-set, take}
 use native.Mathlib.Omega.{arith}
-use Rattle.block.specs.Words.{wordsAt, word}
-use Rattle.block.proofs.Arrays.{read-none, read-more, read-all}
+use Rattle.block.specs.Words.{le16, le16sAt}
+use Rattle.block.proofs.Arrays.{read-all, read-more, read-none}
 use borrow.Author.Needs.{needs}
 use Rattle.block.proofs.words.get16s.Statement.{statement}
 use Rattle.block.proofs.words.get16s.Tie as tie
 
 abbrev Inv-loop : tie.InvT-loop
-Inv-loop b at a₀ i₀ a i = (i ≤ 16) × (length a ≡ 16) × (take i a ≡ wordsAt b at i)
+Inv-loop b at a₀ i₀ a i = (i ≤ length a) × (length a ≡ length a₀) × (take i a ≡ le16sAt b at i)
 
 abbrev μ-loop : tie.MeasureT-loop
-μ-loop b at a₀ i₀ a i = 16 - i
+μ-loop b at a₀ i₀ a i = length a - i
 
 loop-holds : tie.Need-loop-holds Inv-loop μ-loop
-loop-holds c = (omega arith, refl, sym (read-none _))
+loop-holds c = (search needs, refl, sym (read-none _))
 
 mul-get16 : tie.Need-mul-get16 Inv-loop μ-loop
 mul-get16 c = search needs
@@ -30,26 +30,29 @@ get16-requires c κs = search needs
 mul-a : tie.Need-mul-a Inv-loop μ-loop
 mul-a c = search needs
 
-array-write-a : tie.Need-array-write-a Inv-loop μ-loop
-array-write-a c = search needs
+slice-write-a : tie.Need-slice-write-a Inv-loop μ-loop
+slice-write-a c = search needs
 
 add-i : tie.Need-add-i Inv-loop μ-loop
 add-i c = search needs
 
 loop-less : tie.Need-loop-less Inv-loop μ-loop
-loop-less c = search needs
+loop-less c = simp length-set (omega arith)
 
 loop-again : tie.Need-loop-again Inv-loop μ-loop
 loop-again c =
     let l = c .before .before .loop in
-    let a = c .before .before .before .before .args in
-    (omega arith, simp length-set (l .inv .1), read-more (λ k. word (a .b .now) (a .at + 2 * k)) (l .a) (l .i) (c .get16 .result) (omega arith) (l .inv .2) (c .get16 .ensures))
+    let a = c .before .before .before .before .before .args in
+    (simp length-set (omega arith), simp length-set (l .inv .1), read-more (λ k. le16 (a .b .now) (a .at + 2 * k)) (l .a) (l .i) (c .get16 .result) (omega arith) (l .inv .2) (c .get16 .ensures))
+
+same-length : tie.Need-same-length Inv-loop μ-loop
+same-length c = search needs
 
 returns : tie.Need-returns Inv-loop μ-loop
 returns c =
     let l = c .before .loop in
-    let a = c .before .before .before .args in
-    read-all (λ k. word (a .b .now) (a .at + 2 * k)) (l .a) (l .i) 16 (l .inv .1) (omega arith) (l .inv .2)
+    let a = c .before .before .before .before .args in
+    read-all (λ k. le16 (a .b .now) (a .at + 2 * k)) (l .a) (l .i) (length (a .a .now)) (l .inv .1) (omega arith) (l .inv .2)
 
 pub get16s-spec : {M : Type 1} → statement M
 get16s-spec =
@@ -62,8 +65,9 @@ get16s-spec =
     add-get16
     get16-requires
     mul-a
-    array-write-a
+    slice-write-a
     add-i
     loop-less
     loop-again
+    same-length
     returns)

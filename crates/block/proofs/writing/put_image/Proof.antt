@@ -1,0 +1,63 @@
+-- `writing::put_image` meets its contract: the parts one after the other are the whole. Assumes nothing.
+use mathlib.Core.Path.{refl}
+use native.Mathlib.Omega.{arith}
+use Rattle.block.specs.Layout.{imageOf}
+use Rattle.block.proofs.Arrays.{put-then, put-whole}
+use borrow.Author.Needs.{needs}
+use Rattle.block.proofs.writing.put_image.Statement.{statement}
+use Rattle.block.proofs.writing.put_image.Tie as tie
+
+put-head-requires : tie.Need-put-head-requires
+put-head-requires c κs = search needs
+
+put-table-requires : tie.Need-put-table-requires
+put-table-requires c κs = search needs
+
+put-jobs-requires : tie.Need-put-jobs-requires
+put-jobs-requires c κs = search needs
+
+slice-aggregate-put8s : tie.Need-slice-aggregate-put8s
+slice-aggregate-put8s c = search needs
+
+put8s-requires : tie.Need-put8s-requires
+put8s-requires c κs = omega (arith, slice-aggregate-put8s c)
+
+put-queue-requires : tie.Need-put-queue-requires
+put-queue-requires c κs = search needs
+
+put-reserved-requires : tie.Need-put-reserved-requires
+put-reserved-requires c κs = search needs
+
+same-length : tie.Need-same-length
+same-length c = search needs
+
+returns : tie.Need-returns
+unfolding imageOf
+returns c =
+    let free = c .before .before in
+    let queue = free .before .before .before .before in
+    let ranks = queue .before .before .before .before in
+    let jobs = ranks .before .before .before .before .before .before in
+    let table = jobs .before .before .before .before in
+    let head = table .before .before .before .before in
+    put-whole
+    (put-then (head .put-head .ensures) refl
+    (put-then (table .put-table .ensures) refl
+    (put-then (jobs .put-jobs .ensures) refl
+    (put-then (ranks .put8s .ensures) (omega (arith, slice-aggregate-put8s (ranks .before)))
+    (put-then (queue .put-queue .ensures) refl (free .put-reserved .ensures))))))
+    (head .before .before .before .pre)
+
+pub put-image-spec : {M : Type 1} → statement M
+put-image-spec =
+    tie.close
+    (tie.spec
+    put-head-requires
+    put-table-requires
+    put-jobs-requires
+    slice-aggregate-put8s
+    put8s-requires
+    put-queue-requires
+    put-reserved-requires
+    same-length
+    returns)
