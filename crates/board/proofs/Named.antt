@@ -12,10 +12,12 @@ use Rattle.rules.specs.Refusals.{B-zero, C-over-D, C-zero, D-over-T, Refusal, a
 use Rattle.rules.specs.Station.{Station}
 use Rattle.rules.specs.Tick.{Answer, Closing, Runner, Ticked, close, done, firm, firm-job, hard, hard-job, idle, lower, no-tick, noneRan, nothing, soft, spent, stepped, tick, ticked, unknown, unready, upper}
 use Rattle.state.specs.declared.State.{State}
-use Rattle.dispatch.specs.Answers.{answerOf, closingOf, runnerOf, verdictOf}
-use Rattle.board.specs.declared.ClosingNumbers.{ClosingNumbers}
-use Rattle.board.specs.declared.RunnerNumbers.{RunnerNumbers}
-use Rattle.board.specs.Numbers.{closingNumbers, runnerNumbers, steppedTick, tickNumbers}
+use Rattle.answer.specs.Answers.{answerOf, closingOf, runnerOf}
+use Rattle.answer.specs.Numbers.{closingNumbers, runnerNumbers}
+use Rattle.answer.specs.declared.ClosingNumbers.{ClosingNumbers}
+use Rattle.answer.specs.declared.RunnerNumbers.{RunnerNumbers}
+use Rattle.dispatch.specs.Verdicts.{verdictOf}
+use Rattle.board.specs.Numbers.{steppedTick, tickNumbers}
 use Rattle.board.specs.Blocks.{verdictOn}
 use Rattle.board.specs.Promises.{closingIn, named, runnerIn, tickReply}
 

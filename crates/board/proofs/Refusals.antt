@@ -14,8 +14,8 @@ use Rattle.table.specs.Memory.{rowsOf}
 use Rattle.state.specs.declared.Rows.{Rows}
 use Rattle.state.specs.declared.State.{State}
 use Rattle.dispatch.specs.declared.Ticked.{Ticked}
-use Rattle.dispatch.specs.declared.Verdict.{Verdict}
-use Rattle.dispatch.specs.declared.Verdict.the-variants.{NoneRan, NotReady, Stepped, Unknown}
+use Rattle.dispatch.specs.declared.TickVerdict.{TickVerdict}
+use Rattle.dispatch.specs.declared.TickVerdict.the-variants.{NoneRan, NotReady, Stepped, Unknown}
 use Rattle.dispatch.specs.Steps.{tickIn}
 use Rattle.offer.specs.declared.Offered.{Offered}
 use Rattle.offer.specs.declared.Offered.the-variants.{Refused, Ticket}
@@ -40,7 +40,7 @@ plan-refused file b = go (eqb (length b) 512) (read file)
     go true (unread why from size) h = refl
     go false R h = refl
 
-verdict-refused : (v : Verdict) (s : State) (b : List ℕ) → (verdictOn v s b .answer .refusal ≡ 0 → ⊥) → verdictOn v s b .block ≡ b
+verdict-refused : (v : TickVerdict) (s : State) (b : List ℕ) → (verdictOn v s b .answer .refusal ≡ 0 → ⊥) → verdictOn v s b .block ≡ b
 verdict-refused (Stepped a) s b h = absurd (h refl)
 verdict-refused (Unknown k) s b h = refl
 verdict-refused NoneRan s b h = refl
@@ -93,7 +93,7 @@ untouched = record { plan-refused = plan-refused; tick-refused = tick-refused; o
 
 -- a block that holds a state is not refused with 11
 
-verdict-not-11 : (v : Verdict) (s : State) (b : List ℕ) → verdictOn v s b .answer .refusal ≡ 11 → ⊥
+verdict-not-11 : (v : TickVerdict) (s : State) (b : List ℕ) → verdictOn v s b .answer .refusal ≡ 11 → ⊥
 verdict-not-11 (Stepped a) s b e = omega arith
 verdict-not-11 (Unknown k) s b e = omega arith
 verdict-not-11 NoneRan s b e = omega arith

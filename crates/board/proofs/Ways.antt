@@ -20,7 +20,7 @@ use Rattle.state.specs.declared.Rows.{Rows}
 use Rattle.state.specs.declared.State.{State}
 use Rattle.state.specs.Fresh.{plannedRows, freshIn}
 use Rattle.dispatch.specs.declared.Ticked.{Ticked}
-use Rattle.dispatch.specs.declared.Verdict.{Verdict}
+use Rattle.dispatch.specs.declared.TickVerdict.{TickVerdict}
 use Rattle.dispatch.specs.Steps.{tickIn}
 use Rattle.offer.specs.declared.Offered.{Offered}
 use Rattle.offer.specs.declared.OfferMade.{OfferMade}
@@ -51,7 +51,7 @@ module _ (b : List ℕ) (set flags : ℕ) where
     no-image-way bad = decoded-way ∙ rw bad
 
     pub verdict-way : x .ok ≡ true → (d w : Bool) → d ≡ doneFlag flags → w ≡ softFlag flags → (r : Ticked) → r ≡ tickIn (x .rows) (x .state) set d w
-        → (v : Verdict) → r .verdict ≡ v → tickBlock b set flags ≡ verdictOn v (r .state) b
+        → (v : TickVerdict) → r .verdict ≡ v → tickBlock b set flags ≡ verdictOn v (r .state) b
     verdict-way good d w de we r re v ve = decoded-way ∙ rw (good, ← de, ← we, ← re, ve)
 
 -- the offer

@@ -13,10 +13,11 @@ use Rattle.table.specs.declared.Table.{Table}
 use Rattle.state.specs.Fresh.{rowsFor, freshIn}
 use Rattle.state.specs.declared.Rows.{Rows}
 use Rattle.state.specs.declared.State.{State}
+use Rattle.answer.specs.Numbers.{rowNumber}
 use Rattle.dispatch.specs.Steps.{tickIn}
 use Rattle.dispatch.specs.declared.Ticked.{Ticked}
-use Rattle.dispatch.specs.declared.Verdict.{Verdict}
-use Rattle.dispatch.specs.declared.Verdict.the-variants.{Stepped, Unknown, NoneRan, NotReady}
+use Rattle.dispatch.specs.declared.TickVerdict.{TickVerdict}
+use Rattle.dispatch.specs.declared.TickVerdict.the-variants.{Stepped, Unknown, NoneRan, NotReady}
 use Rattle.offer.specs.Steps.{offerMade}
 use Rattle.offer.specs.declared.Offered.{Offered}
 use Rattle.offer.specs.declared.Offered.the-variants.{Refused, Ticket}
@@ -28,7 +29,7 @@ use Rattle.board.specs.declared.OfferAnswer.{OfferAnswer}
 use Rattle.board.specs.declared.PlanAnswer.{PlanAnswer}
 use Rattle.board.specs.declared.TableAnswer.{TableAnswer}
 use Rattle.board.specs.declared.TickAnswer.{TickAnswer}
-use Rattle.board.specs.Numbers.{donePlan, refusedOffer, refusedPlan, refusedTable, refusedTick, rowNumber, steppedTick, takenOffer, writtenTable}
+use Rattle.board.specs.Numbers.{donePlan, refusedOffer, refusedPlan, refusedTable, refusedTick, steppedTick, takenOffer, writtenTable}
 
 -- what a function answers, and the block after it; of the table read back, the output
 pub record Out (A : Type 0) : Type 0 where
@@ -53,7 +54,7 @@ planBlock file b = cond (eqb (length b) 512) (planOf (read file) b) (giving (ref
 -- the tick: 20, 11, then 12, 13, 14
 
 -- a stepped tick leaves the state after it
-abbrev pub verdictOn : Verdict → State → List ℕ → Out TickAnswer
+abbrev pub verdictOn : TickVerdict → State → List ℕ → Out TickAnswer
 verdictOn (Stepped a) s b = giving (steppedTick a) (writtenOn b s)
 verdictOn (Unknown k) s b = giving (refusedTick (number unknown-row) (rowNumber k)) b
 verdictOn NoneRan s b = giving (refusedTick (number none-ran) 0) b

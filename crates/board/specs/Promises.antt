@@ -17,10 +17,11 @@ use Rattle.rules.specs.Image.{isImage}
 use Rattle.rules.specs.Station.{Station, freshStation}
 use Rattle.rules.specs.Tables.{Bytes}
 use Rattle.rules.specs.Tick.{Answer, Closing, How, Runner, bit, closedAs, done, firm, firm-job, hard, hard-job, idle, lower, nothing, soft, spent, upper}
+use Rattle.answer.specs.Numbers.{rowNumber}
 use Rattle.block.specs.Tests.{decodedOf}
 use Rattle.board.specs.declared.OfferAnswer.{OfferAnswer}
 use Rattle.board.specs.declared.TickAnswer.{TickAnswer}
-use Rattle.board.specs.Numbers.{refusedTable, rowNumber}
+use Rattle.board.specs.Numbers.{refusedTable}
 use Rattle.board.specs.Blocks.{giving, offerBlock, planBlock, tableBlock, tickBlock}
 
 -- THE ANSWERS, read as document 01's replies

@@ -1,15 +1,11 @@
 // What a C kernel calls: planning, the tick, the upload offer and the table read back, on numbers and a lent block of 512 bytes.
 ghost use mathlib.Core.Path.{_≡_};
-ghost use Prim.Native.Nat.{_<_};
 ghost use Rattle.rules.specs.Calls.{doneFlag, softFlag};
-ghost use Rattle.dispatch.specs.Below.{RunnerBelow, ClosingBelow, AnswerBelow};
-ghost use Rattle.board.specs.Numbers.{bandNumber, runnerNumbers, hardClosing, firmClosing, closingNumbers, rowNumber, rowShown, refusedTick, steppedTick, refusedPlan};
+ghost use Rattle.answer.specs.Below.{AnswerBelow};
+ghost use Rattle.board.specs.Numbers.{refusedPlan, refusedTick, rowShown, steppedTick};
 ghost use Rattle.board.specs.Blocks.{planBlock, tickBlock, offerBlock, tableIn, tableBlock};
-use dispatch::Answer;
-use dispatch::Band;
-use dispatch::Closing;
-use dispatch::Runner;
-use dispatch::Verdict;
+use answer::Answer;
+use dispatch::TickVerdict;
 use offer::Offered;
 use state::Rows;
 use table::Table;
@@ -105,14 +101,14 @@ pub extern "C" fn heechstjer_tick(block: &mut [u8], set: u16, flags: u8) -> Tick
         let ticked = dispatch::tick(rows, state, set, done_flag(flags), soft_flag(flags));
         let verdict = ticked.verdict;
         match verdict {
-            Verdict::Stepped(answer) => {
+            TickVerdict::Stepped(answer) => {
                 let next = ticked.state;
                 block::write_state(next, block);
                 stepped_tick(answer)
             }
-            Verdict::Unknown(k) => refused_tick(12, row_number(k)),
-            Verdict::NoneRan => refused_tick(13, 0),
-            Verdict::NotReady(k) => refused_tick(14, row_number(k)),
+            TickVerdict::Unknown(k) => refused_tick(12, answer::row_number(k)),
+            TickVerdict::NoneRan => refused_tick(13, 0),
+            TickVerdict::NotReady(k) => refused_tick(14, answer::row_number(k)),
         }
     } else {
         refused_tick(11, 0)
@@ -190,7 +186,7 @@ fn row_shown(refusal: u8, from: usize) -> u8
     if 10 < refusal {
         return 0;
     }
-    row_number(from / 10 % 16)
+    answer::row_number(from / 10 % 16)
 }
 
 fn done_flag(flags: u8) -> bool
@@ -229,8 +225,8 @@ fn stepped_tick(answer: Answer) -> TickAnswer
 {
     let runner = answer.runner;
     let closing = answer.closing;
-    let runs = runner_numbers(runner);
-    let closes = closing_numbers(closing);
+    let runs = answer::runner_numbers(runner);
+    let closes = answer::closing_numbers(closing);
     TickAnswer {
         clock: answer.clock,
         ticket: runs.ticket,
@@ -243,112 +239,6 @@ fn stepped_tick(answer: Answer) -> TickAnswer
         closed: closes.kind,
         closed_row: closes.row,
         closing: closes.how,
-    }
-}
-
-// Rows are counted from 1.
-fn row_number(k: usize) -> u8
-    requires { ⌜ k < 16 ⌝ }
-    ensures { λ r. ⌜ r ≡ rowNumber k ⌝ }
-{
-    k as u8 + 1
-}
-
-// A runner in numbers; 0 where a number says nothing.
-struct RunnerNumbers {
-    kind: u8,
-    row: u8,
-    band: u8,
-    ticket: u32,
-}
-
-fn runner_numbers(runner: Runner) -> RunnerNumbers
-    requires { ⌜ RunnerBelow runner ⌝ }
-    ensures { λ r. ⌜ r ≡ runnerNumbers runner ⌝ }
-{
-    match runner {
-        Runner::Hard(k, band) => RunnerNumbers {
-            kind: 1,
-            row: row_number(k),
-            band: band_number(band),
-            ticket: 0,
-        },
-        Runner::Firm(ticket) => RunnerNumbers {
-            kind: 2,
-            row: 0,
-            band: 0,
-            ticket,
-        },
-        Runner::Soft => RunnerNumbers {
-            kind: 3,
-            row: 0,
-            band: 0,
-            ticket: 0,
-        },
-        Runner::Idle => RunnerNumbers {
-            kind: 4,
-            row: 0,
-            band: 0,
-            ticket: 0,
-        },
-    }
-}
-
-fn band_number(band: Band) -> u8
-    ensures { λ r. ⌜ r ≡ bandNumber band ⌝ }
-{
-    match band {
-        Band::Upper => 1,
-        Band::Lower => 2,
-    }
-}
-
-// A closing in numbers; 0 where a number says nothing.
-struct ClosingNumbers {
-    kind: u8,
-    row: u8,
-    how: u8,
-    ticket: u32,
-}
-
-fn closing_numbers(closing: Closing) -> ClosingNumbers
-    requires { ⌜ ClosingBelow closing ⌝ }
-    ensures { λ r. ⌜ r ≡ closingNumbers closing ⌝ }
-{
-    match closing {
-        Closing::Nothing => ClosingNumbers {
-            kind: 0,
-            row: 0,
-            how: 0,
-            ticket: 0,
-        },
-        Closing::HardDone(k) => hard_closing(k, 1),
-        Closing::HardSpent(k) => hard_closing(k, 2),
-        Closing::FirmDone(ticket) => firm_closing(ticket, 1),
-        Closing::FirmSpent(ticket) => firm_closing(ticket, 2),
-    }
-}
-
-fn hard_closing(k: usize, how: u8) -> ClosingNumbers
-    requires { ⌜ k < 16 ⌝ }
-    ensures { λ r. ⌜ r ≡ hardClosing k how ⌝ }
-{
-    ClosingNumbers {
-        kind: 1,
-        row: row_number(k),
-        how,
-        ticket: 0,
-    }
-}
-
-fn firm_closing(ticket: u32, how: u8) -> ClosingNumbers
-    ensures { λ r. ⌜ r ≡ firmClosing ticket how ⌝ }
-{
-    ClosingNumbers {
-        kind: 2,
-        row: 0,
-        how,
-        ticket,
     }
 }
 

@@ -7,6 +7,6 @@ pub mod RefineChoose
 pub mod RefineAdvance
 pub mod RefineRun
 pub mod Refine
-pub mod AnswerNumbers
+pub mod VerdictNumbers
 pub mod NamedRows
 pub mod OneResult

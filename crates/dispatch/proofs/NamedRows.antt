@@ -12,14 +12,15 @@ use Rattle.state.specs.declared.Rows.{Rows}
 use Rattle.state.specs.declared.State.{State}
 use Rattle.state.specs.Meaning.{entry}
 use Rattle.state.specs.Sets.{known, least, others}
-use Rattle.dispatch.specs.declared.Closing.the-variants.{FirmDone, FirmSpent, HardDone, HardSpent, Nothing}
-use Rattle.dispatch.specs.declared.Runner.the-variants.{Firm, Hard, Idle, Soft}
-use Rattle.dispatch.specs.declared.Band.the-variants.{Lower, Upper}
+use Rattle.answer.specs.declared.Closing.the-variants.{FirmDone, FirmSpent, HardDone, HardSpent, Nothing}
+use Rattle.answer.specs.declared.Runner.the-variants.{Firm, Hard, Idle, Soft}
+use Rattle.answer.specs.declared.Band.the-variants.{Lower, Upper}
+use Rattle.answer.specs.Below.{ClosingBelow, RunnerBelow}
 use Rattle.dispatch.specs.declared.Ticked.{Ticked}
-use Rattle.dispatch.specs.declared.Verdict.{Verdict}
-use Rattle.dispatch.specs.declared.Verdict.the-variants.{NoneRan, NotReady, Unknown}
+use Rattle.dispatch.specs.declared.TickVerdict.{TickVerdict}
+use Rattle.dispatch.specs.declared.TickVerdict.the-variants.{NoneRan, NotReady, Unknown}
 use Rattle.dispatch.specs.declared.sets.Best.{Best}
-use Rattle.dispatch.specs.Below.{ClosingBelow, RunnerBelow, VerdictBelow}
+use Rattle.dispatch.specs.Verdicts.{VerdictBelow}
 use Rattle.dispatch.specs.Loops.{foldRows, lowAt, noBest}
 use Rattle.dispatch.specs.Steps.{chosenIn, closedBy, closingIn, lowerOf, promotedRows, readied, releasedBy, steppedIn, tickIn}
 
@@ -95,5 +96,5 @@ tick-below rows s set d soft =
     (chosen-below rows (releasedBy t set) soft, closing-below rows s d)
 
 -- a tick that was made, and its verdict
-pub verdict-below : (rows : Rows) (s : State) (set : ℕ) (d soft : Bool) {r : Ticked} {v : Verdict} → r ≡ tickIn rows s set d soft → r .verdict ≡ v → VerdictBelow v
+pub verdict-below : (rows : Rows) (s : State) (set : ℕ) (d soft : Bool) {r : Ticked} {v : TickVerdict} → r ≡ tickIn rows s set d soft → r .verdict ≡ v → VerdictBelow v
 verdict-below rows s set d soft e is = subst VerdictBelow (sym (ap (λ r. r .verdict) e) ∙ is) (tick-below rows s set d soft)

@@ -32,9 +32,10 @@ use Rattle.state.proofs.Bits.{bit-and, bit-known, bit-or, bit-others, bit-past,
 use Rattle.state.proofs.Positions.{all-rows, find-least, first-row, length-rows}
 use Rattle.state.proofs.Widths.{U-le, image-of, positive, row-good, thin}
 use Rattle.state.proofs.Bools.{and-yes, leb-ltb}
+use Rattle.answer.specs.Answers.{answerOf, runnerOf}
 use Rattle.dispatch.specs.declared.Ticked.{Ticked}
-use Rattle.dispatch.specs.declared.Verdict.the-variants.{NoneRan, NotReady, Stepped, Unknown}
-use Rattle.dispatch.specs.Answers.{answerOf, runnerOf, verdictOf}
+use Rattle.dispatch.specs.declared.TickVerdict.the-variants.{NoneRan, NotReady, Stepped, Unknown}
+use Rattle.dispatch.specs.Verdicts.{verdictOf}
 use Rattle.dispatch.specs.Refines.{TickRefines}
 use Rattle.dispatch.specs.Steps.{advanced, closedBy, closingIn, ranIn, readied, releasedBy, steppedIn, tickIn}
 use Rattle.dispatch.proofs.Arrays.{bit-minus}

@@ -18,10 +18,10 @@ use Rattle.state.specs.Meaning.{Kept, ageAt, entry, firmAt, firmsOf, rowsFrom, 
 use Rattle.state.specs.Sets.{least}
 use Rattle.state.proofs.Bits.{bit-and, bit-or, found, least-below}
 use Rattle.state.proofs.Positions.{find-least}
-use Rattle.dispatch.specs.declared.Band.the-variants.{Lower, Upper}
-use Rattle.dispatch.specs.declared.Runner.the-variants.{Firm, Hard, Idle, Soft}
+use Rattle.answer.specs.declared.Band.the-variants.{Lower, Upper}
+use Rattle.answer.specs.declared.Runner.the-variants.{Firm, Hard, Idle, Soft}
+use Rattle.answer.specs.Answers.{runnerOf}
 use Rattle.dispatch.specs.declared.sets.Best.{Best}
-use Rattle.dispatch.specs.Answers.{runnerOf}
 use Rattle.dispatch.specs.Loops.{agedAt, better, foldRows, lowAt, noBest, rowsThat}
 use Rattle.dispatch.specs.Steps.{chosenIn, lowerOf, promotedRows}
 use Rattle.dispatch.proofs.Arrays.{bit-that}

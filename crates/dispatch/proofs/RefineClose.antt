@@ -28,9 +28,9 @@ use Rattle.state.proofs.Bits.{bit-one}
 use Rattle.state.proofs.Positions.{any-rows, each-rows, first-row, holds-rows, shift-rows}
 use Rattle.state.proofs.Widths.{image-of}
 use Rattle.state.proofs.Bools.{leb-ltb, or-no}
-use Rattle.dispatch.specs.declared.Closing.{Closing}
-use Rattle.dispatch.specs.declared.Closing.the-variants.{Nothing, HardDone, HardSpent, FirmDone, FirmSpent}
-use Rattle.dispatch.specs.Answers.{closingOf}
+use Rattle.answer.specs.declared.Closing.{Closing}
+use Rattle.answer.specs.declared.Closing.the-variants.{Nothing, HardDone, HardSpent, FirmDone, FirmSpent}
+use Rattle.answer.specs.Answers.{closingOf}
 use Rattle.dispatch.specs.Steps.{closedBy, closingIn, popped, shutRow}
 use Rattle.dispatch.proofs.Arrays.{bit-minus, set-at, shift-at}
 

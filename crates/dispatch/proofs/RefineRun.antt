@@ -20,7 +20,7 @@ use Rattle.state.specs.declared.State.{State}
 use Rattle.state.specs.Meaning.{Kept, entry, firmAt, firmsOf, jobAt, rowsFrom, slotAt, slotsOf, stationOf}
 use Rattle.state.proofs.Agrees.{station-is}
 use Rattle.state.proofs.Positions.{first-row, holds-rows, same-rows}
-use Rattle.dispatch.specs.Answers.{runnerOf}
+use Rattle.answer.specs.Answers.{runnerOf}
 use Rattle.dispatch.specs.Steps.{advanced, bumped, ranFirst, ranIn, ranNone, ranRow, reworked}
 use Rattle.dispatch.proofs.Arrays.{set-at}
 use Rattle.dispatch.proofs.RefineAdvance.{advance-kept, pass-slots}

@@ -8,9 +8,9 @@ use lib.Dec.{ltb}
 use Rattle.state.specs.declared.Rows.{Rows}
 use Rattle.state.specs.declared.State.{State}
 use Rattle.state.specs.Sets.{known, least, others}
-use Rattle.dispatch.specs.declared.Closing.{Closing}
+use Rattle.answer.specs.declared.Closing.{Closing}
 use Rattle.dispatch.specs.declared.Ticked.{Ticked}
-use Rattle.dispatch.specs.declared.Verdict.the-variants.{Unknown, NoneRan, NotReady}
+use Rattle.dispatch.specs.declared.TickVerdict.the-variants.{Unknown, NoneRan, NotReady}
 use Rattle.dispatch.specs.Steps.{closedBy, closingIn, readied, steppedIn, tickIn}
 
 module _ (rows : Rows) (s : State) (set : ℕ) (d soft : Bool) (k unknown : ℕ) (ek : k ≡ known (rows .table .n)) (eu : unknown ≡ least (bitAnd set (others k))) where

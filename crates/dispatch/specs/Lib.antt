@@ -1,5 +1,4 @@
-pub mod Answers
+pub mod Verdicts
 pub mod Loops
 pub mod Steps
 pub mod Refines
-pub mod Below

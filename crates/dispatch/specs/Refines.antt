@@ -4,9 +4,10 @@ use Rattle.rules.specs.Tick as rules
 use Rattle.state.specs.declared.Rows.{Rows}
 use Rattle.state.specs.declared.State.{State}
 use Rattle.state.specs.Meaning.{Stored, stationOf}
+use Rattle.answer.specs.Answers.{answerOf}
 use Rattle.dispatch.specs.declared.Ticked.{Ticked}
-use Rattle.dispatch.specs.declared.Verdict.the-variants.{Stepped}
-use Rattle.dispatch.specs.Answers.{answerOf, verdictOf}
+use Rattle.dispatch.specs.declared.TickVerdict.the-variants.{Stepped}
+use Rattle.dispatch.specs.Verdicts.{verdictOf}
 
 -- stepped: the answer, and a state that is again the rules' station and may be stored; refused: the number with its values, and the state as it was
 abbrev pub TickRefines : Rows → State → rules.Ticked → Ticked → Type 0

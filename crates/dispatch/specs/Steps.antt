@@ -9,13 +9,13 @@ use Rattle.state.specs.declared.Rows.{Rows}
 use Rattle.state.specs.declared.State.{State}
 use Rattle.state.specs.Meaning.{entry}
 use Rattle.state.specs.Sets.{known, least, others}
-use Rattle.dispatch.specs.declared.Band.the-variants.{Upper, Lower}
-use Rattle.dispatch.specs.declared.Closing.{Closing}
-use Rattle.dispatch.specs.declared.Closing.the-variants.{Nothing, HardDone, HardSpent, FirmDone, FirmSpent}
-use Rattle.dispatch.specs.declared.Runner.{Runner}
-use Rattle.dispatch.specs.declared.Runner.the-variants.{Hard, Firm, Soft, Idle}
+use Rattle.answer.specs.declared.Band.the-variants.{Upper, Lower}
+use Rattle.answer.specs.declared.Closing.{Closing}
+use Rattle.answer.specs.declared.Closing.the-variants.{Nothing, HardDone, HardSpent, FirmDone, FirmSpent}
+use Rattle.answer.specs.declared.Runner.{Runner}
+use Rattle.answer.specs.declared.Runner.the-variants.{Hard, Firm, Soft, Idle}
 use Rattle.dispatch.specs.declared.Ticked.{Ticked}
-use Rattle.dispatch.specs.declared.Verdict.the-variants.{Stepped, Unknown, NoneRan, NotReady}
+use Rattle.dispatch.specs.declared.TickVerdict.the-variants.{Stepped, Unknown, NoneRan, NotReady}
 use Rattle.dispatch.specs.declared.sets.Best.{Best}
 use Rattle.dispatch.specs.Loops.{agedAt, foldRows, lowAt, marked, noBest, rowsThat, upto}
 

@@ -1,52 +1,25 @@
-// The dispatcher in memory: the tick, and its answer.
+// The dispatcher in memory: the tick, and its verdict.
 mod sets; // sets.rt: sets of rows, and the loops over sixteen rows
 mod steps; // steps.rt: close, release, choose, run
 
 ghost use mathlib.Core.Path.{_≡_};
-ghost use Rattle.dispatch.specs.Answers.{numberOf};
+ghost use Rattle.dispatch.specs.Verdicts.{tickNumber};
 ghost use Rattle.dispatch.specs.Steps.{tickIn};
+use answer::Answer;
 use state::Rows;
 use state::State;
 
-pub enum Band {
-    Upper,
-    Lower,
-}
-
-// Who runs: a hard row with its band, a firm ticket, soft, or idle.
-pub enum Runner {
-    Hard(usize, Band),
-    Firm(u32),
-    Soft,
-    Idle,
-}
-
-// What closed: nothing, or a hard row or a firm ticket, as done or as spent.
-pub enum Closing {
-    Nothing,
-    HardDone(usize),
-    HardSpent(usize),
-    FirmDone(u32),
-    FirmSpent(u32),
-}
-
-// The answer to a tick: the clock as the tick found it, who runs, and what closed.
-pub struct Answer {
-    pub clock: u32,
-    pub runner: Runner,
-    pub closing: Closing,
-}
-
 // Stepped, or refused: 12 with the row, 13, 14 with the row. Rows are counted from 0.
-pub enum Verdict {
+pub enum TickVerdict {
     Stepped(Answer),
     Unknown(usize),
     NoneRan,
     NotReady(usize),
 }
 
+// The verdict of a tick, and the state after it.
 pub struct Ticked {
-    pub verdict: Verdict,
+    pub verdict: TickVerdict,
     pub state: State,
 }
 
@@ -58,14 +31,14 @@ pub fn tick(rows: Rows, s: State, set: u16, done: bool, soft: bool) -> Ticked
     let unknown = sets::lowest(set & !known);
     if unknown < 16 {
         return Ticked {
-            verdict: Verdict::Unknown(unknown),
+            verdict: TickVerdict::Unknown(unknown),
             state: s,
         };
     }
     if done {
         if 16 < s.last {
             return Ticked {
-                verdict: Verdict::NoneRan,
+                verdict: TickVerdict::NoneRan,
                 state: s,
             };
         }
@@ -75,7 +48,7 @@ pub fn tick(rows: Rows, s: State, set: u16, done: bool, soft: bool) -> Ticked
     let unready = sets::lowest(set & (closed.open | !closed.rested));
     if unready < 16 {
         return Ticked {
-            verdict: Verdict::NotReady(unready),
+            verdict: TickVerdict::NotReady(unready),
             state: s,
         };
     }
@@ -83,13 +56,13 @@ pub fn tick(rows: Rows, s: State, set: u16, done: bool, soft: bool) -> Ticked
 }
 
 // Document 01's number of a refused tick, 0 of a stepped one.
-pub fn tick_number(verdict: Verdict) -> u8
-    ensures { λ r. ⌜ r ≡ numberOf verdict ⌝ }
+pub fn tick_number(verdict: TickVerdict) -> u8
+    ensures { λ r. ⌜ r ≡ tickNumber verdict ⌝ }
 {
     match verdict {
-        Verdict::Stepped(_) => 0,
-        Verdict::Unknown(_) => 12,
-        Verdict::NoneRan => 13,
-        Verdict::NotReady(_) => 14,
+        TickVerdict::Stepped(_) => 0,
+        TickVerdict::Unknown(_) => 12,
+        TickVerdict::NoneRan => 13,
+        TickVerdict::NotReady(_) => 14,
     }
 }

@@ -1,14 +1,14 @@
 // The steps of a tick: 1 close, 2 release, 3 choose, 4 run and advance.
 ghost use mathlib.Core.Path.{_≡_};
 ghost use Rattle.dispatch.specs.Steps.{advanced, bumped, chosenIn, closedBy, closingIn, ranFirst, ranIn, ranNone, ranRow, releasedBy, shifted, shutRow, popped, promotedRows, steppedIn};
-use crate::Answer;
-use crate::Band;
-use crate::Closing;
-use crate::Runner;
+use crate::TickVerdict;
 use crate::Ticked;
-use crate::Verdict;
 use crate::sets;
 use crate::sets::Best;
+use answer::Answer;
+use answer::Band;
+use answer::Closing;
+use answer::Runner;
 use state::Rows;
 use state::State;
 
@@ -112,7 +112,7 @@ pub fn stepped(rows: Rows, s: State, set: u16, soft: bool, closing: Closing) -> 
         closing,
     };
     Ticked {
-        verdict: Verdict::Stepped(answer),
+        verdict: TickVerdict::Stepped(answer),
         state,
     }
 }

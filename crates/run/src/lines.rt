@@ -1,11 +1,11 @@
 // The lines that are printed: for a tick, for an offer, for a refusal.
-use dispatch::Answer;
-use dispatch::Band;
-use dispatch::Closing;
-use dispatch::Runner;
+use answer::Answer;
+use answer::Band;
+use answer::Closing;
+use answer::Runner;
 use wire::Place;
 ghost use Prim.Native.Nat.{_<_};
-ghost use Rattle.dispatch.specs.Below.{AnswerBelow, ClosingBelow, RunnerBelow};
+ghost use Rattle.answer.specs.Below.{AnswerBelow, ClosingBelow, RunnerBelow};
 
 pub fn too_long() {
     print(b"too long\n");

@@ -1,7 +1,7 @@
 // Reads table.bin and events.bin, each empty where it can't be opened, and prints a line an event: the dispatcher's answer, or why it is refused.
 mod lines;
 
-use dispatch::Verdict;
+use dispatch::TickVerdict;
 use event::EventRead;
 use offer::Offered;
 use state::Rows;
@@ -117,7 +117,7 @@ fn tick<'a>(
 {
     let ticked = dispatch::tick(rows, state, set, done, soft);
     let verdict = ticked.verdict;
-    let Verdict::Stepped(answer) = verdict else {
+    let TickVerdict::Stepped(answer) = verdict else {
         lines::refused(table, events, dispatch::tick_number(verdict), field);
         return ticked.state;
     };

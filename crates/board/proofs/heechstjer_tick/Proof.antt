@@ -1,9 +1,9 @@
 -- `board::heechstjer_tick` meets its contract on each way through it. Assumes nothing.
 use mathlib.Core.Path.{_≡_, ap, _∙_}
 use borrow.Author.Needs.{needs}
-use Rattle.dispatch.specs.declared.Verdict.{Verdict}
-use Rattle.dispatch.specs.declared.Verdict.the-variants.{NoneRan, NotReady, Stepped, Unknown}
-use Rattle.dispatch.specs.Below.{VerdictBelow}
+use Rattle.dispatch.specs.declared.TickVerdict.{TickVerdict}
+use Rattle.dispatch.specs.declared.TickVerdict.the-variants.{NoneRan, NotReady, Stepped, Unknown}
+use Rattle.dispatch.specs.Verdicts.{VerdictBelow}
 use Rattle.dispatch.proofs.NamedRows.{verdict-below}
 use Rattle.board.specs.Blocks.{tickBlock, verdictOn}
 use Rattle.board.specs.Numbers.{refusedTick}
@@ -11,7 +11,7 @@ use Rattle.board.proofs.Ways.{flag-way, halves, no-image-way, verdict-w
 use Rattle.board.proofs.heechstjer_tick.Statement.{statement}
 use Rattle.board.proofs.heechstjer_tick.Tie as tie
 
-way : (c : tie.After-tick) (v : Verdict) → c .tick .result .verdict ≡ v
+way : (c : tie.After-tick) (v : TickVerdict) → c .tick .result .verdict ≡ v
     → tickBlock (c .before .before .before .before .before .before .before .before .before .before .args .block .now) (c .before .before .before .before .before .before .before .before .before .before .args .set) (c .before .before .before .before .before .before .before .before .before .before .args .flags) ≡ verdictOn v (c .tick .result .state) (c .before .before .before .before .before .before .before .before .before .before .args .block .now)
 way c v e =
     let a = c .before .before .before .before .before .before .before .before .before .before .args in
@@ -21,7 +21,7 @@ way c v e =
     (c .tick .result) (c .tick .ensures) v e
 
 -- the rows that the verdict names are below 16
-below : (c : tie.After-tick) (v : Verdict) → c .tick .result .verdict ≡ v → VerdictBelow v
+below : (c : tie.After-tick) (v : TickVerdict) → c .tick .result .verdict ≡ v → VerdictBelow v
 below c v e =
     let x = c .before .before .before .before .before .before .decode .result in
     let a = c .before .before .before .before .before .before .before .before .before .before .args in

@@ -1,6 +1,6 @@
 -- `lines::print_closing` meets its contract: a closed hard job's row is below 16. Assumes nothing.
 use mathlib.Core.Path.{subst}
-use Rattle.dispatch.specs.Below.{ClosingBelow}
+use Rattle.answer.specs.Below.{ClosingBelow}
 use borrow.Author.Needs.{needs}
 use Rattle.run.proofs.lines.print_closing.Statement.{statement}
 use Rattle.run.proofs.lines.print_closing.Tie as tie

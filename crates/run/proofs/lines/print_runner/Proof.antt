@@ -1,6 +1,6 @@
 -- `lines::print_runner` meets its contract: a hard runner's row is below 16. Assumes nothing.
 use mathlib.Core.Path.{subst}
-use Rattle.dispatch.specs.Below.{RunnerBelow}
+use Rattle.answer.specs.Below.{RunnerBelow}
 use borrow.Author.Needs.{needs}
 use Rattle.run.proofs.lines.print_runner.Statement.{statement}
 use Rattle.run.proofs.lines.print_runner.Tie as tie

@@ -1,7 +1,7 @@
--- `board::runner_numbers` meets its contract, case by case. Assumes nothing.
+-- `answer::runner_numbers` meets its contract, case by case. Assumes nothing.
 use borrow.Author.Needs.{needs}
-use Rattle.board.proofs.runner_numbers.Statement.{statement}
-use Rattle.board.proofs.runner_numbers.Tie as tie
+use Rattle.answer.proofs.runner_numbers.Statement.{statement}
+use Rattle.answer.proofs.runner_numbers.Tie as tie
 
 enum-known-runner : tie.Need-enum-known-runner
 enum-known-runner c = search needs

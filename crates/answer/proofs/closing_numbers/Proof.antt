@@ -1,7 +1,7 @@
--- `board::closing_numbers` meets its contract, case by case. Assumes nothing.
+-- `answer::closing_numbers` meets its contract, case by case. Assumes nothing.
 use borrow.Author.Needs.{needs}
-use Rattle.board.proofs.closing_numbers.Statement.{statement}
-use Rattle.board.proofs.closing_numbers.Tie as tie
+use Rattle.answer.proofs.closing_numbers.Statement.{statement}
+use Rattle.answer.proofs.closing_numbers.Tie as tie
 
 enum-told : tie.Need-enum-told
 enum-told c = search needs

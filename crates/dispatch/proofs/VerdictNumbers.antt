@@ -7,11 +7,11 @@ use Rattle.rules.specs.Lists.{find, firstOf, orElse, unless}
 use Rattle.rules.specs.Refusals.{atRow, none-ran, not-ready, number, refusal, unknown-row}
 use Rattle.rules.specs.Station.{Station}
 use Rattle.rules.specs.Tick.{Ticked, close, no-tick, noneRan, stepped, tick, ticked, unknown, unready}
-use Rattle.dispatch.specs.Answers.{numberOf, verdictOf}
+use Rattle.dispatch.specs.Verdicts.{tickNumber, verdictOf}
 
 abbrev pub Numbered : Ticked → Type 0
 Numbered (ticked st x) = Unit {0}
-Numbered (no-tick y) = numberOf (verdictOf y) ≡ number (y .why)
+Numbered (no-tick y) = tickNumber (verdictOf y) ≡ number (y .why)
 
 pub tick-numbered : (st : Station) (set : ℕ) (d wants : Bool) → Numbered (tick st set d wants)
 unfolding tick

@@ -1,7 +1,7 @@
--- `board::hard_closing` meets its contract. Assumes nothing.
+-- `answer::hard_closing` meets its contract. Assumes nothing.
 use borrow.Author.Needs.{needs}
-use Rattle.board.proofs.hard_closing.Statement.{statement}
-use Rattle.board.proofs.hard_closing.Tie as tie
+use Rattle.answer.proofs.hard_closing.Statement.{statement}
+use Rattle.answer.proofs.hard_closing.Tie as tie
 
 row-number-requires : tie.Need-row-number-requires
 row-number-requires c κs = search needs
