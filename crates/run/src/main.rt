@@ -45,12 +45,12 @@ fn run_files<'a>(table: &'a [u8], events: &'a [u8]) {
     let answer = table::read_table(table);
     let verdict = answer.verdict;
     match verdict {
-        table::Verdict::Accepted => {
+        table::FileVerdict::Accepted => {
             let rows = answer.table;
             let plan = answer.plan;
             run_events(table, events, state::planned_rows(rows, plan));
         }
-        table::Verdict::Refused(refusal) => {
+        table::FileVerdict::Refused(refusal) => {
             let place = Place::Table {
                 from: refusal.from,
                 size: refusal.size,
