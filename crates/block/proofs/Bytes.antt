@@ -33,7 +33,7 @@ unfolding reserved
 reserved-clean = record { bytes = zeros-bytes reserved-bytes }
 
 module _ (rows : Rows) (s : State) (F : Fit rows s) where
-  head-clean : Clean (headBytes (rows .n) s)
+  head-clean : Clean (headBytes (rows .table .n) s)
   unfolding headBytes
   head-clean =
       let numbers =
@@ -46,9 +46,9 @@ module _ (rows : Rows) (s : State) (F : Fit rows s) where
   unfolding imageOf tableBytes jobsBytes queueBytes
   image-clean =
       then head-clean
-      (then (then (array form16 (rows .c) (F .c-lt)) (then (array form16 (rows .d) (F .d-lt)) (then (array form16 (rows .t) (F .t-lt)) (array form16 (rows .u) (F .u-lt)))))
+      (then (then (array form16 (rows .table .c) (F .c-lt)) (then (array form16 (rows .table .d) (F .d-lt)) (then (array form16 (rows .table .t) (F .t-lt)) (array form16 (rows .u) (F .u-lt)))))
       (then (then (array form16 (s .run) (F .run-lt)) (array form32 (s .stamp) (F .stamp-lt)))
-      (then (array form8 (rows .rank) (F .rank-lt))
+      (then (array form8 (rows .table .rank) (F .rank-lt))
       (then (then (array form16 (s .budget) (F .budget-lt)) (then (array form16 (s .used) (F .used-lt)) (array form32 (s .ticket) (F .ticket-lt)))) reserved-clean))))
 
   pub image-bytes : Bytes (imageOf rows s)

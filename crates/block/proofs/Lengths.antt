@@ -6,8 +6,7 @@ use native.Mathlib.Omega.{arith}
 use Rattle.state.specs.declared.Rows.{Rows}
 use Rattle.state.specs.declared.State.{State}
 use Rattle.block.specs.Places.{C-at, block-bytes, budget-at, rank-at, reserved-at, reserved-bytes, run-at}
-use Rattle.block.specs.Words.{joined, le8Bytes}
-use Rattle.block.specs.Layout.{Long, headBytes, imageOf, jobsBytes, queueBytes, reserved, tableBytes}
+use Rattle.block.specs.Layout.{Long, headBytes, imageOf, jobsBytes, queueBytes, ranksBytes, reserved, tableBytes}
 use Rattle.block.proofs.Arrays.{joined-long}
 use Rattle.block.proofs.Forms.{form16, form32, form8}
 
@@ -18,14 +17,14 @@ head-long n s = refl
 module _ (rows : Rows) (s : State) (L : Long rows s) where
   pub table-long : C-at + length (tableBytes rows) ≡ run-at
   unfolding tableBytes
-  table-long = simp length-append (omega (arith, joined-long form16 (rows .c) 16 (L .c-long), joined-long form16 (rows .d) 16 (L .d-long), joined-long form16 (rows .t) 16 (L .t-long), joined-long form16 (rows .u) 16 (L .u-long)))
+  table-long = simp length-append (omega (arith, joined-long form16 (rows .table .c) 16 (L .c-long), joined-long form16 (rows .table .d) 16 (L .d-long), joined-long form16 (rows .table .t) 16 (L .t-long), joined-long form16 (rows .u) 16 (L .u-long)))
 
   pub jobs-long : run-at + length (jobsBytes s) ≡ rank-at
   unfolding jobsBytes
   jobs-long = simp length-append (omega (arith, joined-long form16 (s .run) 16 (L .run-long), joined-long form32 (s .stamp) 16 (L .stamp-long)))
 
-  pub ranks-long : rank-at + length (joined le8Bytes (rows .rank)) ≡ budget-at
-  ranks-long = omega (arith, joined-long form8 (rows .rank) 16 (L .rank-long))
+  pub ranks-long : rank-at + length (ranksBytes rows) ≡ budget-at
+  ranks-long = omega (arith, joined-long form8 (rows .table .rank) 16 (L .rank-long))
 
   pub queue-long : budget-at + length (queueBytes s) ≡ reserved-at
   unfolding queueBytes
@@ -37,4 +36,4 @@ module _ (rows : Rows) (s : State) (L : Long rows s) where
 
   pub image-long : length (imageOf rows s) ≡ block-bytes
   unfolding imageOf
-  image-long = simp length-append (omega (arith, head-long (rows .n) s, table-long, jobs-long, ranks-long, queue-long, reserved-long))
+  image-long = simp length-append (omega (arith, head-long (rows .table .n) s, table-long, jobs-long, ranks-long, queue-long, reserved-long))

@@ -18,7 +18,8 @@ use Rattle.rules.proofs.ImageIs
 use Rattle.rules.proofs.Image.{Image}
 use Rattle.state.specs.declared.Rows.{Rows}
 use Rattle.state.specs.declared.State.{State}
-use Rattle.state.specs.Meaning.{Kept, ageAt, entry, firmAt, firmsOf, lastOf, rowAt, rowsFrom, slotAt, slotsOf, stationOf, wrapped}
+use Rattle.table.specs.Memory.{rowAt}
+use Rattle.state.specs.Meaning.{Kept, ageAt, entry, firmAt, firmsOf, lastOf, rowsFrom, slotAt, slotsOf, stationOf, wrapped}
 use Rattle.state.proofs.Bools.{or-yes}
 use Rattle.state.proofs.Positions.{length-rows, map-rows, rows-all}
 use Rattle.block.specs.Layout.{Long}
@@ -53,47 +54,47 @@ module _ (rows : Rows) (s : State) (L : Long rows s) (F : Fit rows s) (C : Check
 
   -- a row
 
-  says : (i : ℕ) → i < 16 → HardSays (ltb i (rows .n)) (bit (s .«open») i) (eqb i (s .last)) (entry (rows .c) i) (entry (rows .d) i) (entry (rows .t) i) (entry (rows .u) i) (entry (s .run) i)
-  says i h = hard-says (ltb i (rows .n)) (bit (s .«open») i) (eqb i (s .last)) (entry (rows .c) i) (entry (rows .d) i) (entry (rows .t) i) (entry (rows .u) i) (entry (s .run) i) (C .row i h)
+  says : (i : ℕ) → i < 16 → HardSays (ltb i (rows .table .n)) (bit (s .«open») i) (eqb i (s .last)) (entry (rows .table .c) i) (entry (rows .table .d) i) (entry (rows .table .t) i) (entry (rows .u) i) (entry (s .run) i)
+  says i h = hard-says (ltb i (rows .table .n)) (bit (s .«open») i) (eqb i (s .last)) (entry (rows .table .c) i) (entry (rows .table .d) i) (entry (rows .table .t) i) (entry (rows .u) i) (entry (s .run) i) (C .row i h)
 
-  C-pos : (i : ℕ) → i < rows .n → 1 ≤ entry (rows .c) i
+  C-pos : (i : ℕ) → i < rows .table .n → 1 ≤ entry (rows .table .c) i
   C-pos i h =
       let few = C .few in
-      let e : 1 - entry (rows .c) i ≡ 0 = rw (lt-ltb i (rows .n) h) at (says i (omega arith) .there) in
+      let e : 1 - entry (rows .table .c) i ≡ 0 = rw (lt-ltb i (rows .table .n) h) at (says i (omega arith) .there) in
       omega arith
 
   -- no row stands there
   abbrev Blank : ℕ → Type 0
-  Blank i = (entry (rows .c) i ≡ 0) × (entry (rows .d) i ≡ 0) × (entry (rows .t) i ≡ 0) × (entry (rows .u) i ≡ 0) × (entry (rows .rank) i ≡ 0)
+  Blank i = (entry (rows .table .c) i ≡ 0) × (entry (rows .table .d) i ≡ 0) × (entry (rows .table .t) i ≡ 0) × (entry (rows .u) i ≡ 0) × (entry (rows .table .rank) i ≡ 0)
 
-  row-past : (i : ℕ) → rows .n ≤ i → Blank i
+  row-past : (i : ℕ) → rows .table .n ≤ i → Blank i
   row-past i h = by-place (Blank i) i 16 inside outside
     where
       inside : i < 16 → Blank i
       inside l =
           let R = says i l in
-          let T-zero : entry (rows .t) i ≡ 0 = rw (le-ltb i (rows .n) h) at (R .there) in
+          let T-zero : entry (rows .table .t) i ≡ 0 = rw (le-ltb i (rows .table .n) h) at (R .there) in
           (omega (arith, R .C-le, R .D-le), omega (arith, R .D-le), T-zero, omega (arith, R .U-le, R .D-le), C .rank-past i l h)
 
       outside : 16 ≤ i → Blank i
-      outside g = (entry-out (rows .c) 16 i (L .c-long) g, entry-out (rows .d) 16 i (L .d-long) g, entry-out (rows .t) 16 i (L .t-long) g, entry-out (rows .u) 16 i (L .u-long) g, entry-out (rows .rank) 16 i (L .rank-long) g)
+      outside g = (entry-out (rows .table .c) 16 i (L .c-long) g, entry-out (rows .table .d) 16 i (L .d-long) g, entry-out (rows .table .t) 16 i (L .t-long) g, entry-out (rows .u) 16 i (L .u-long) g, entry-out (rows .table .rank) 16 i (L .rank-long) g)
 
-  open-in : (i : ℕ) → rows .n ≤ i → bit (s .«open») i ≡ false
-  open-in i h = in-known (rows .n) (s .«open») i (C .few) (C .open-le) h
+  open-in : (i : ℕ) → rows .table .n ≤ i → bit (s .«open») i ≡ false
+  open-in i h = in-known (rows .table .n) (s .«open») i (C .few) (C .open-le) h
 
-  rested-in : (i : ℕ) → rows .n ≤ i → bit (s .rested) i ≡ false
-  rested-in i h = in-known (rows .n) (s .rested) i (C .few) (C .rested-le) h
+  rested-in : (i : ℕ) → rows .table .n ≤ i → bit (s .rested) i ≡ false
+  rested-in i h = in-known (rows .table .n) (s .rested) i (C .few) (C .rested-le) h
 
   -- a stamp
 
-  young : (i : ℕ) → i < rows .n → bit (s .rested) i ≡ false → wrapped (s .clock) (entry (s .stamp) i) < entry (rows .t) i
+  young : (i : ℕ) → i < rows .table .n → bit (s .rested) i ≡ false → wrapped (s .clock) (entry (s .stamp) i) < entry (rows .table .t) i
   young i h r =
       let few = C .few in
-      stamp-young (bit (s .rested) i || not (ltb i (rows .n))) (entry (rows .t) i) (s .clock) (entry (s .stamp) i) (rw (r, lt-ltb i (rows .n) h)) (C .stamp i (omega arith))
+      stamp-young (bit (s .rested) i || not (ltb i (rows .table .n))) (entry (rows .table .t) i) (s .clock) (entry (s .stamp) i) (rw (r, lt-ltb i (rows .table .n) h)) (C .stamp i (omega arith))
 
-  stamp-zero : (i : ℕ) → (bit (s .rested) i || not (ltb i (rows .n))) ≡ true → entry (s .stamp) i ≡ 0
+  stamp-zero : (i : ℕ) → (bit (s .rested) i || not (ltb i (rows .table .n))) ≡ true → entry (s .stamp) i ≡ 0
   stamp-zero i e = by-place (entry (s .stamp) i ≡ 0) i 16
-      (λ l. stamp-quiet (bit (s .rested) i || not (ltb i (rows .n))) (entry (rows .t) i) (s .clock) (entry (s .stamp) i) e (C .stamp i l))
+      (λ l. stamp-quiet (bit (s .rested) i || not (ltb i (rows .table .n))) (entry (rows .table .t) i) (s .clock) (entry (s .stamp) i) e (C .stamp i l))
       (λ g. entry-out (s .stamp) 16 i (L .stamp-long) g)
 
   -- a firm job
@@ -125,7 +126,7 @@ module _ (rows : Rows) (s : State) (L : Long rows s) (F : Fit rows s) (C : Check
       stamps = L .stamp-long;
       stamp-lt = F .stamp-lt;
       rested-past = rested-in;
-      stamp-past = λ i h. stamp-zero i (rw (le-ltb i (rows .n) h) (or-yes (bit (s .rested) i)));
+      stamp-past = λ i h. stamp-zero i (rw (le-ltb i (rows .table .n) h) (or-yes (bit (s .rested) i)));
       young = young;
       stamp-blank = λ i e. stamp-zero i (rw e);
     };
@@ -136,23 +137,23 @@ module _ (rows : Rows) (s : State) (L : Long rows s) (F : Fit rows s) (C : Check
 
   -- the conditions
 
-  good : (i : ℕ) → i < rows .n → Good (slotAt rows s i)
+  good : (i : ℕ) → i < rows .table .n → Good (slotAt rows s i)
   good i h =
       let few = C .few in
       let R = says i (omega arith) in
       record { C-pos = C-pos i h; U-le = R .U-le; D-le = R .D-le; age-le = age-low (bit (s .rested) i) refl }
     where
-      age-low : (b : Bool) → bit (s .rested) i ≡ b → cond b (entry (rows .t) i) (wrapped (s .clock) (entry (s .stamp) i)) ≤ entry (rows .t) i
-      age-low true e = le-refl (entry (rows .t) i)
+      age-low : (b : Bool) → bit (s .rested) i ≡ b → cond b (entry (rows .table .t) i) (wrapped (s .clock) (entry (s .stamp) i)) ≤ entry (rows .table .t) i
+      age-low true e = le-refl (entry (rows .table .t) i)
       age-low false e = omega (arith, young i h e)
 
-  row-ok : (i : ℕ) → i < rows .n → RowOk (rowAt rows i)
+  row-ok : (i : ℕ) → i < rows .table .n → RowOk (rowAt (rows .table) i)
   row-ok i h = let few = C .few in let R = says i (omega arith) in record { C-pos = C-pos i h; C-le = R .C-le; D-le = R .D-le }
 
-  runs : (i : ℕ) → i < rows .n → Runs (lastAt (lastOf s) i) (slotAt rows s i)
+  runs : (i : ℕ) → i < rows .table .n → Runs (lastAt (lastOf s) i) (slotAt rows s i)
   runs i h =
       let few = C .few in
-      rw (last-is s i (omega arith)) (to-runs (rowAt rows i) (entry (rows .u) i) (ageAt rows s i) (entry (s .run) i) (bit (s .«open») i) (eqb i (s .last)) (C-pos i h) (says i (omega arith) .runs))
+      rw (last-is s i (omega arith)) (to-runs (rowAt (rows .table) i) (entry (rows .u) i) (ageAt rows s i) (entry (s .run) i) (bit (s .«open») i) (eqb i (s .last)) (C-pos i h) (says i (omega arith) .runs))
 
   paid : (j : ℕ) → j < s .count → (1 ≤ entry (s .budget) j) × (entry (s .used) j ≤ entry (s .budget) j) × (entry (s .budget) j < 2 ^ 16)
   paid j h =
@@ -190,7 +191,7 @@ module _ (rows : Rows) (s : State) (L : Long rows s) (F : Fit rows s) (C : Check
   first-ran zero l h = absurd (omega arith)
   first-ran (suc k) l h = (inl (refl, h), refl)
 
-  row-ran : bit (s .«open») (s .last) ≡ true → 0 < entry (s .run) (s .last) → s .last < rows .n → HasRun (slotAt rows s (s .last))
+  row-ran : bit (s .«open») (s .last) ≡ true → 0 < entry (s .run) (s .last) → s .last < rows .table .n → HasRun (slotAt rows s (s .last))
   row-ran o r l = go (entry (s .run) (s .last)) r refl
     where
       go : (x : ℕ) → 0 < x → entry (s .run) (s .last) ≡ x → HasRun (slotAt rows s (s .last))
@@ -207,10 +208,10 @@ module _ (rows : Rows) (s : State) (L : Long rows s) (F : Fit rows s) (C : Check
           × FirstIs (cond a (row-at (s .last)) (cond x (firm-of (entry (s .ticket) 0)) nobody)) (firmsOf s)
       go true p x e =
           let (o, r) = and-true (bit (s .«open») (s .last)) (ltb 0 (entry (s .run) (s .last))) e in
-          let l : s .last < rows .n = there (decLt (s .last) (rows .n)) o in
-          (rows-hold (slotAt rows s) HasRun (s .last) 0 (rows .n) (omega arith) (omega arith) (row-ran o (ltb-true 0 (entry (s .run) (s .last)) r) l), tt)
+          let l : s .last < rows .table .n = there (decLt (s .last) (rows .table .n)) o in
+          (rows-hold (slotAt rows s) HasRun (s .last) 0 (rows .table .n) (omega arith) (omega arith) (row-ran o (ltb-true 0 (entry (s .run) (s .last)) r) l), tt)
         where
-          there : Dec (s .last < rows .n) → bit (s .«open») (s .last) ≡ true → s .last < rows .n
+          there : Dec (s .last < rows .table .n) → bit (s .«open») (s .last) ≡ true → s .last < rows .table .n
           there (yes l) o = l
           there (no n) o = absurd (true≢false (sym o ∙ open-in (s .last) (omega arith)))
       go false p true e =
@@ -221,20 +222,20 @@ module _ (rows : Rows) (s : State) (L : Long rows s) (F : Fit rows s) (C : Check
   conditions : Image (stationOf rows s)
   unfolding stationOf
   conditions =
-      let slots-are : rowsOf (slotsOf rows s) ≡ rowsFrom (rowAt rows) 0 (rows .n) = map-rows (λ x. x .row) (slotAt rows s) 0 (rows .n) in
+      let slots-are : rowsOf (slotsOf rows s) ≡ rowsFrom (rowAt (rows .table)) 0 (rows .table .n) = map-rows (λ x. x .row) (slotAt rows s) 0 (rows .table .n) in
       let few = C .few in
       record {
         clock-lt = F .clock-lt;
         table = rw slots-are (record {
-          few = rw (length-rows (rowAt rows) 0 (rows .n)) few;
-          narrow = rows-all (λ r. r .T < 2 ^ 16) (rowAt rows) 0 (rows .n) (λ i a b. F .t-lt i);
-          no-fault = tableFault-iff (rowsFrom (rowAt rows) 0 (rows .n)) .1 (
-            rows-all RowOk (rowAt rows) 0 (rows .n) (λ i a b. row-ok i (omega arith)),
-            set-once (rowAt rows) (rows .n) few (λ i h. C .rank-low i (omega arith)) (C .ranks),
+          few = rw (length-rows (rowAt (rows .table)) 0 (rows .table .n)) few;
+          narrow = rows-all (λ r. r .T < 2 ^ 16) (rowAt (rows .table)) 0 (rows .table .n) (λ i a b. F .t-lt i);
+          no-fault = tableFault-iff (rowsFrom (rowAt (rows .table)) 0 (rows .table .n)) .1 (
+            rows-all RowOk (rowAt (rows .table)) 0 (rows .table .n) (λ i a b. row-ok i (omega arith)),
+            set-once (rowAt (rows .table)) (rows .table .n) few (λ i h. C .rank-low i (omega arith)) (C .ranks),
           );
         });
-        good = rows-all Good (slotAt rows s) 0 (rows .n) (λ i a b. good i (omega arith));
-        runs = rows-run (slotAt rows s) (lastAt (lastOf s)) 0 (rows .n) (λ i a b. runs i (omega arith));
+        good = rows-all Good (slotAt rows s) 0 (rows .table .n) (λ i a b. good i (omega arith));
+        runs = rows-run (slotAt rows s) (lastAt (lastOf s)) 0 (rows .table .n) (λ i a b. runs i (omega arith));
         firms = rows-all (λ f. lastTo (lastOf s) (f .ticket) ≡ false → Live f) (firmAt s) 0 (s .count) (λ j a b. live j (omega arith));
         paid = rows-all (λ f. (1 ≤ f .budget) × (f .run ≤ f .budget) × (f .budget < 2 ^ 16)) (firmAt s) 0 (s .count) (λ j a b. paid j (omega arith));
         tickets = record {

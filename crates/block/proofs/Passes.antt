@@ -18,7 +18,8 @@ use Rattle.rules.proofs.ImageTests.{last-iff, opened-same}
 use Rattle.rules.proofs.Image.{Image, TableOk}
 use Rattle.state.specs.declared.Rows.{Rows}
 use Rattle.state.specs.declared.State.{State}
-use Rattle.state.specs.Meaning.{Kept, ageAt, entry, firmAt, firmsOf, lastOf, rowAt, rowsFrom, slotAt, slotsOf, stationOf, wrapped}
+use Rattle.table.specs.Memory.{rowAt}
+use Rattle.state.specs.Meaning.{Kept, ageAt, entry, firmAt, firmsOf, lastOf, rowsFrom, slotAt, slotsOf, stationOf, wrapped}
 use Rattle.state.proofs.Positions.{all-rows, holds-rows, map-rows}
 use Rattle.state.proofs.Widths.{Widths, image-of, row-good, runs-rows, widths}
 use Rattle.block.specs.Image.{Imaged}
@@ -37,16 +38,16 @@ module _ (rows : Rows) (s : State) (I : Imaged rows s) where
   image : Image (stationOf rows s)
   image = image-of rows s (I .stored)
 
-  table : TableOk (rowsFrom (rowAt rows) 0 (rows .n))
+  table : TableOk (rowsFrom (rowAt (rows .table)) 0 (rows .table .n))
   unfolding stationOf image
-  table = rw (map-rows (λ x. x .row) (slotAt rows s) 0 (rows .n)) at (image .table)
+  table = rw (map-rows (λ x. x .row) (slotAt rows s) 0 (rows .table .n)) at (image .table)
 
   -- by the place of a row, of a firm job
 
-  row-case : (P : ℕ → Type 0) (i : ℕ) → (i < rows .n → P i) → (rows .n ≤ i → P i) → P i
-  row-case P i a b = go (decLt i (rows .n))
+  row-case : (P : ℕ → Type 0) (i : ℕ) → (i < rows .table .n → P i) → (rows .table .n ≤ i → P i) → P i
+  row-case P i a b = go (decLt i (rows .table .n))
     where
-      go : Dec (i < rows .n) → P i
+      go : Dec (i < rows .table .n) → P i
       go (yes l) = a l
       go (no m) = b (omega arith)
 
@@ -57,9 +58,9 @@ module _ (rows : Rows) (s : State) (I : Imaged rows s) where
       go (yes l) = a l
       go (no m) = b (omega arith)
 
-  runs : (i : ℕ) → i < rows .n → Runs (lastAt (lastOf s) i) (slotAt rows s i)
+  runs : (i : ℕ) → i < rows .table .n → Runs (lastAt (lastOf s) i) (slotAt rows s i)
   unfolding stationOf image
-  runs i h = runs-rows (lastAt (lastOf s)) (slotAt rows s) 0 (rows .n) (image .runs) i (omega arith) (omega arith)
+  runs i h = runs-rows (lastAt (lastOf s)) (slotAt rows s) 0 (rows .table .n) (image .runs) i (omega arith) (omega arith)
 
   paid : (j : ℕ) → j < s .count → Paid (firmAt s j)
   unfolding stationOf image
@@ -73,23 +74,23 @@ module _ (rows : Rows) (s : State) (I : Imaged rows s) where
   unfolding stationOf image
   ticket-is j h = let e : 0 + s .count - j ≡ s .count - j = omega arith in rw e at (from-tickets (s .next) (firmAt s) 0 (s .count) j (image .tickets .to-next) (omega arith) (omega arith))
 
-  ranks-ok : RanksOk (rowsFrom (rowAt rows) 0 (rows .n))
-  ranks-ok = tableFault-iff (rowsFrom (rowAt rows) 0 (rows .n)) .0 (table .no-fault) .1
+  ranks-ok : RanksOk (rowsFrom (rowAt (rows .table)) 0 (rows .table .n))
+  ranks-ok = tableFault-iff (rowsFrom (rowAt (rows .table)) 0 (rows .table .n)) .0 (table .no-fault) .1
 
   -- a row in order, or none
-  in-order : (i : ℕ) → (entry (rows .c) i ≤ entry (rows .d) i) × (entry (rows .d) i ≤ entry (rows .t) i) × (entry (rows .u) i + entry (rows .c) i ≤ entry (rows .d) i)
-  in-order i = row-case (λ k. (entry (rows .c) k ≤ entry (rows .d) k) × (entry (rows .d) k ≤ entry (rows .t) k) × (entry (rows .u) k + entry (rows .c) k ≤ entry (rows .d) k)) i
+  in-order : (i : ℕ) → (entry (rows .table .c) i ≤ entry (rows .table .d) i) × (entry (rows .table .d) i ≤ entry (rows .table .t) i) × (entry (rows .u) i + entry (rows .table .c) i ≤ entry (rows .table .d) i)
+  in-order i = row-case (λ k. (entry (rows .table .c) k ≤ entry (rows .table .d) k) × (entry (rows .table .d) k ≤ entry (rows .table .t) k) × (entry (rows .u) k + entry (rows .table .c) k ≤ entry (rows .table .d) k)) i
       (λ l. let G = row-good rows s (I .stored) i l in (omega (arith, G .U-le), G .D-le, G .U-le))
       (λ g. omega (arith, K .table .past i g))
 
-  run-le : (i : ℕ) → entry (s .run) i ≤ cond (bit (s .«open») i) (entry (rows .c) i - cond (eqb i (s .last)) 0 1) 0
-  run-le i = row-case (λ k. entry (s .run) k ≤ cond (bit (s .«open») k) (entry (rows .c) k - cond (eqb k (s .last)) 0 1) 0) i inside
+  run-le : (i : ℕ) → entry (s .run) i ≤ cond (bit (s .«open») i) (entry (rows .table .c) i - cond (eqb i (s .last)) 0 1) 0
+  run-le i = row-case (λ k. entry (s .run) k ≤ cond (bit (s .«open») k) (entry (rows .table .c) k - cond (eqb k (s .last)) 0 1) 0) i inside
       (λ g. rw (K .jobs .open-past i g) (omega (arith, K .jobs .run-blank i (K .jobs .open-past i g))))
     where
-      inside : i < rows .n → entry (s .run) i ≤ cond (bit (s .«open») i) (entry (rows .c) i - cond (eqb i (s .last)) 0 1) 0
+      inside : i < rows .table .n → entry (s .run) i ≤ cond (bit (s .«open») i) (entry (rows .table .c) i - cond (eqb i (s .last)) 0 1) 0
       inside l =
           let few = K .table .few in
-          from-runs (rowAt rows i) (entry (rows .u) i) (ageAt rows s i) (entry (s .run) i) (bit (s .«open») i) (eqb i (s .last)) (rw (last-is s i (omega arith)) at (runs i l)) (K .jobs .run-blank i)
+          from-runs (rowAt (rows .table) i) (entry (rows .u) i) (ageAt rows s i) (entry (s .run) i) (bit (s .«open») i) (eqb i (s .last)) (rw (last-is s i (omega arith)) at (runs i l)) (K .jobs .run-blank i)
 
   W : Widths rows s
   W = widths rows s (I .stored)
@@ -117,26 +118,26 @@ module _ (rows : Rows) (s : State) (I : Imaged rows s) where
 
   -- the tests
 
-  there : (i : ℕ) → cond (ltb i (rows .n)) (1 - entry (rows .c) i) (entry (rows .t) i) ≡ 0
-  there i = row-case (λ k. cond (ltb k (rows .n)) (1 - entry (rows .c) k) (entry (rows .t) k) ≡ 0) i
-      (λ l. rw (lt-ltb i (rows .n) l) (omega (arith, row-good rows s (I .stored) i l .C-pos)))
-      (λ g. rw (le-ltb i (rows .n) g) (K .table .past i g .2))
+  there : (i : ℕ) → cond (ltb i (rows .table .n)) (1 - entry (rows .table .c) i) (entry (rows .table .t) i) ≡ 0
+  there i = row-case (λ k. cond (ltb k (rows .table .n)) (1 - entry (rows .table .c) k) (entry (rows .table .t) k) ≡ 0) i
+      (λ l. rw (lt-ltb i (rows .table .n) l) (omega (arith, row-good rows s (I .stored) i l .C-pos)))
+      (λ g. rw (le-ltb i (rows .table .n) g) (K .table .past i g .2))
 
   -- quiet: rested, or not there
-  quiet : (i : ℕ) → (bit (s .rested) i || not (ltb i (rows .n))) ≡ true → entry (s .stamp) i ≡ 0
-  quiet i = go (bit (s .rested) i) refl (ltb i (rows .n)) refl
+  quiet : (i : ℕ) → (bit (s .rested) i || not (ltb i (rows .table .n))) ≡ true → entry (s .stamp) i ≡ 0
+  quiet i = go (bit (s .rested) i) refl (ltb i (rows .table .n)) refl
     where
-      go : (a : Bool) → bit (s .rested) i ≡ a → (x : Bool) → ltb i (rows .n) ≡ x → (a || not x) ≡ true → entry (s .stamp) i ≡ 0
+      go : (a : Bool) → bit (s .rested) i ≡ a → (x : Bool) → ltb i (rows .table .n) ≡ x → (a || not x) ≡ true → entry (s .stamp) i ≡ 0
       go true e x q h = K .times .stamp-blank i e
       go false e true q h = absurd (false≢true h)
-      go false e false q h = K .times .stamp-past i (ltb-false i (rows .n) q)
+      go false e false q h = K .times .stamp-past i (ltb-false i (rows .table .n) q)
 
-  young : (i : ℕ) → (bit (s .rested) i || not (ltb i (rows .n))) ≡ false → wrapped (s .clock) (entry (s .stamp) i) < entry (rows .t) i
-  young i = go (bit (s .rested) i) refl (ltb i (rows .n)) refl
+  young : (i : ℕ) → (bit (s .rested) i || not (ltb i (rows .table .n))) ≡ false → wrapped (s .clock) (entry (s .stamp) i) < entry (rows .table .t) i
+  young i = go (bit (s .rested) i) refl (ltb i (rows .table .n)) refl
     where
-      go : (a : Bool) → bit (s .rested) i ≡ a → (x : Bool) → ltb i (rows .n) ≡ x → (a || not x) ≡ false → wrapped (s .clock) (entry (s .stamp) i) < entry (rows .t) i
+      go : (a : Bool) → bit (s .rested) i ≡ a → (x : Bool) → ltb i (rows .table .n) ≡ x → (a || not x) ≡ false → wrapped (s .clock) (entry (s .stamp) i) < entry (rows .table .t) i
       go true e x q h = absurd (true≢false h)
-      go false e true q h = K .times .young i (ltb-true i (rows .n) q) e
+      go false e true q h = K .times .young i (ltb-true i (rows .table .n) q) e
       go false e false q h = absurd (true≢false h)
 
   -- only the first job can be the last runner
@@ -198,7 +199,7 @@ module _ (rows : Rows) (s : State) (I : Imaged rows s) where
           → LastRan (cond a (row-at (s .last)) (cond x (firm-of (entry (s .ticket) 0)) nobody)) (slotsOf rows s) (firmsOf s)
           → lastOk (cond a (row-at (s .last)) (cond x (firm-of (entry (s .ticket) 0)) nobody)) (slotsOf rows s) (firmsOf s) ≡ true
           → cond a (bit (s .«open») (s .last) && ltb 0 (entry (s .run) (s .last))) (cond x (ltb 0 (s .count) && ltb 0 (entry (s .used) 0)) (eqb (s .last) 17)) ≡ true
-      go true p x q h e = row-ran (holds-rows HasRun (slotAt rows s) (s .last) 0 (rows .n) h .1)
+      go true p x q h e = row-ran (holds-rows HasRun (slotAt rows s) (s .last) 0 (rows .table .n) h .1)
       go false p true q h e = firm-ran (slotsOf rows s) (s .count) e
       go false p false q h e = eq-eqb (s .last) 17 (seventeen (s .last) (ltb-false (s .last) 16 p) (K .last-le) (eqb-false (s .last) 16 q))
         where
@@ -209,15 +210,15 @@ module _ (rows : Rows) (s : State) (I : Imaged rows s) where
   passes = record {
     few = K .table .few;
     firms-few = K .queue .few;
-    row = λ i h. says-hard (ltb i (rows .n)) (bit (s .«open») i) (eqb i (s .last)) (entry (rows .c) i) (entry (rows .d) i) (entry (rows .t) i) (entry (rows .u) i) (entry (s .run) i)
+    row = λ i h. says-hard (ltb i (rows .table .n)) (bit (s .«open») i) (eqb i (s .last)) (entry (rows .table .c) i) (entry (rows .table .d) i) (entry (rows .table .t) i) (entry (rows .u) i) (entry (s .run) i)
         (record { C-le = in-order i .0; D-le = in-order i .1; U-le = in-order i .2; there = there i; runs = run-le i });
-    stamp = λ i h. stamp-says (bit (s .rested) i || not (ltb i (rows .n))) (entry (rows .t) i) (s .clock) (entry (s .stamp) i) (quiet i) (young i);
+    stamp = λ i h. stamp-says (bit (s .rested) i || not (ltb i (rows .table .n))) (entry (rows .table .t) i) (s .clock) (entry (s .stamp) i) (quiet i) (young i);
     firm = λ j h. says-firm (ltb j (s .count)) (eqb j 0 && eqb 16 (s .last)) (entry (s .budget) j) (entry (s .used) j) (record { there = firm-there j; runs = firm-runs j });
     ticket = λ j h. ticket-due j;
-    ranks = once-set (rowAt rows) (rows .n) (K .table .few) ranks-ok;
-    rank-low = λ i h. row-case (λ k. entry (rows .rank) k < 32) i (λ l. omega (arith, rank-lt (rowAt rows) (rows .n) (K .table .few) ranks-ok i l, K .table .few)) (λ g. omega (arith, K .table .past i g .4));
+    ranks = once-set (rowAt (rows .table)) (rows .table .n) (K .table .few) ranks-ok;
+    rank-low = λ i h. row-case (λ k. entry (rows .table .rank) k < 32) i (λ l. omega (arith, rank-lt (rowAt (rows .table)) (rows .table .n) (K .table .few) ranks-ok i l, K .table .few)) (λ g. omega (arith, K .table .past i g .4));
     rank-past = λ i h g. K .table .past i g .4;
-    open-le = known-in (rows .n) (s .«open») (K .table .few) (K .jobs .open-lt) (K .jobs .open-past);
-    rested-le = known-in (rows .n) (s .rested) (K .table .few) (K .times .rested-lt) (K .times .rested-past);
+    open-le = known-in (rows .table .n) (s .«open») (K .table .few) (K .jobs .open-lt) (K .jobs .open-past);
+    rested-le = known-in (rows .table .n) (s .rested) (K .table .few) (K .times .rested-lt) (K .times .rested-past);
     last-ok = last-passes;
   }

@@ -14,8 +14,7 @@ use Rattle.state.specs.declared.State.{State}
 use Rattle.state.specs.Meaning.{entry}
 use Rattle.block.specs.declared.Decoded.{Decoded}
 use Rattle.block.specs.Places.{block-bytes, budget-at, clock-at, count-at, reserved-at, reserved-bytes, run-at}
-use Rattle.block.specs.Words.{joined, le8Bytes}
-use Rattle.block.specs.Layout.{Long, headBytes, imageOf, jobsBytes, marksBytes, numbersBytes, queueBytes, reserved, rowsAt, stateAt, stateOn, tableBytes}
+use Rattle.block.specs.Layout.{Long, headBytes, imageOf, jobsBytes, marksBytes, numbersBytes, queueBytes, ranksBytes, reserved, rowsAt, stateAt, stateOn, tableBytes}
 use Rattle.block.specs.Tests.{decodedAs, decodedOf, imageGood, refusedBlock}
 use Rattle.block.specs.Image.{BlockPromises, Imaged}
 use Rattle.block.proofs.Bytes
@@ -88,35 +87,32 @@ regroup-5 a b c d e = simp append-assoc
 
 module _ (rows : Rows) (s after : State) (L : Long rows s) (M : Long rows after) where
   abbrev head : List ℕ
-  head = headBytes (rows .n) after
+  head = headBytes (rows .table .n) after
 
-  abbrev ranks : List ℕ
-  ranks = joined le8Bytes (rows .rank)
-
-  head-over : (rest : List ℕ) → sets (sets (headBytes (rows .n) s ++ rest) count-at (marksBytes after)) clock-at (numbersBytes after) ≡ head ++ rest
+  head-over : (rest : List ℕ) → sets (sets (headBytes (rows .table .n) s ++ rest) count-at (marksBytes after)) clock-at (numbersBytes after) ≡ head ++ rest
   unfolding headBytes
   head-over rest = refl
 
   jobs-over : (rest : List ℕ) → sets (head ++ (tableBytes rows ++ (jobsBytes s ++ rest))) run-at (jobsBytes after) ≡ head ++ (tableBytes rows ++ (jobsBytes after ++ rest))
   jobs-over rest =
-      let long : length (head ++ tableBytes rows) ≡ run-at = length-append head (tableBytes rows) ∙ omega (arith, head-long (rows .n) after, table-long rows s L) in
+      let long : length (head ++ tableBytes rows) ≡ run-at = length-append head (tableBytes rows) ∙ omega (arith, head-long (rows .table .n) after, table-long rows s L) in
       ap (λ l. sets l run-at (jobsBytes after)) (regroup-3 head (tableBytes rows) (jobsBytes s ++ rest))
       ∙ over (head ++ tableBytes rows) (jobsBytes s) (jobsBytes after) rest run-at long (omega (arith, jobs-long rows s L, jobs-long rows after M))
       ∙ sym (regroup-3 head (tableBytes rows) (jobsBytes after ++ rest))
 
-  queue-over : sets (head ++ (tableBytes rows ++ (jobsBytes after ++ (ranks ++ (queueBytes s ++ reserved))))) budget-at (queueBytes after)
-      ≡ head ++ (tableBytes rows ++ (jobsBytes after ++ (ranks ++ (queueBytes after ++ reserved))))
+  queue-over : sets (head ++ (tableBytes rows ++ (jobsBytes after ++ (ranksBytes rows ++ (queueBytes s ++ reserved))))) budget-at (queueBytes after)
+      ≡ head ++ (tableBytes rows ++ (jobsBytes after ++ (ranksBytes rows ++ (queueBytes after ++ reserved))))
   queue-over =
-      let front = ((head ++ tableBytes rows) ++ jobsBytes after) ++ ranks in
-      let long : length front ≡ budget-at = simp length-append (omega (arith, head-long (rows .n) after, table-long rows s L, jobs-long rows after M, ranks-long rows s L)) in
-      ap (λ l. sets l budget-at (queueBytes after)) (regroup-5 head (tableBytes rows) (jobsBytes after) ranks (queueBytes s ++ reserved))
+      let front = ((head ++ tableBytes rows) ++ jobsBytes after) ++ ranksBytes rows in
+      let long : length front ≡ budget-at = simp length-append (omega (arith, head-long (rows .table .n) after, table-long rows s L, jobs-long rows after M, ranks-long rows s L)) in
+      ap (λ l. sets l budget-at (queueBytes after)) (regroup-5 head (tableBytes rows) (jobsBytes after) (ranksBytes rows) (queueBytes s ++ reserved))
       ∙ over front (queueBytes s) (queueBytes after) reserved budget-at long (omega (arith, queue-long rows s L, queue-long rows after M))
-      ∙ sym (regroup-5 head (tableBytes rows) (jobsBytes after) ranks (queueBytes after ++ reserved))
+      ∙ sym (regroup-5 head (tableBytes rows) (jobsBytes after) (ranksBytes rows) (queueBytes after ++ reserved))
 
   pub write-image : stateOn (imageOf rows s) after ≡ imageOf rows after
   unfolding stateOn imageOf
   write-image =
-      ap (λ l. sets l budget-at (queueBytes after)) (ap (λ l. sets l run-at (jobsBytes after)) (head-over (tableBytes rows ++ (jobsBytes s ++ (ranks ++ (queueBytes s ++ reserved))))) ∙ jobs-over (ranks ++ (queueBytes s ++ reserved)))
+      ap (λ l. sets l budget-at (queueBytes after)) (ap (λ l. sets l run-at (jobsBytes after)) (head-over (tableBytes rows ++ (jobsBytes s ++ (ranksBytes rows ++ (queueBytes s ++ reserved))))) ∙ jobs-over (ranksBytes rows ++ (queueBytes s ++ reserved)))
       ∙ queue-over
 
 pub block-promises : BlockPromises

@@ -34,17 +34,17 @@ lastTest s =
 
 -- what the tests say of the rows and the state, entry by entry
 pub record Checked (rows : Rows) (s : State) : Type 0 where
-  pub few : rows .n ≤ 16
+  pub few : rows .table .n ≤ 16
   pub firms-few : s .count ≤ 8
-  pub row : (i : ℕ) → i < 16 → hardFault (ltb i (rows .n)) (bit (s .«open») i) (eqb i (s .last)) (entry (rows .c) i) (entry (rows .d) i) (entry (rows .t) i) (entry (rows .u) i) (entry (s .run) i) ≡ 0
-  pub stamp : (i : ℕ) → i < 16 → stampFault (bit (s .rested) i || not (ltb i (rows .n))) (entry (rows .t) i) (s .clock) (entry (s .stamp) i) ≡ 0
+  pub row : (i : ℕ) → i < 16 → hardFault (ltb i (rows .table .n)) (bit (s .«open») i) (eqb i (s .last)) (entry (rows .table .c) i) (entry (rows .table .d) i) (entry (rows .table .t) i) (entry (rows .u) i) (entry (s .run) i) ≡ 0
+  pub stamp : (i : ℕ) → i < 16 → stampFault (bit (s .rested) i || not (ltb i (rows .table .n))) (entry (rows .table .t) i) (s .clock) (entry (s .stamp) i) ≡ 0
   pub firm : (j : ℕ) → j < 8 → firmFault (ltb j (s .count)) (eqb j 0 && eqb 16 (s .last)) (entry (s .budget) j) (entry (s .used) j) ≡ 0
   pub ticket : (j : ℕ) → j < 8 → entry (s .ticket) j ≡ cond (ltb j (s .count)) ((wrapped (s .next) (s .count) + j) % 2 ^ 32) 0
-  pub ranks : orOf (λ i. 2 ^ (entry (rows .rank) i % 32)) (rows .n) ≡ known (rows .n)
-  pub rank-low : (i : ℕ) → i < 16 → entry (rows .rank) i < 32
-  pub rank-past : (i : ℕ) → i < 16 → rows .n ≤ i → entry (rows .rank) i ≡ 0
-  pub open-le : s .«open» ≤ known (rows .n)
-  pub rested-le : s .rested ≤ known (rows .n)
+  pub ranks : orOf (λ i. 2 ^ (entry (rows .table .rank) i % 32)) (rows .table .n) ≡ known (rows .table .n)
+  pub rank-low : (i : ℕ) → i < 16 → entry (rows .table .rank) i < 32
+  pub rank-past : (i : ℕ) → i < 16 → rows .table .n ≤ i → entry (rows .table .rank) i ≡ 0
+  pub open-le : s .«open» ≤ known (rows .table .n)
+  pub rested-le : s .rested ≤ known (rows .table .n)
   pub last-ok : lastTest s ≡ true
 
 -- the bytes kept free are 0
@@ -149,7 +149,7 @@ module _ (b : List ℕ) where
   firm-entry : (at i : ℕ) → i < 8 → entry (le16sAt b at 8) i ≡ le16 b (at + 2 * i)
   firm-entry at i h = entry-is (λ j. le16 b (at + 2 * j)) 8 i h
 
-  rank-entry : (i : ℕ) → i < 16 → entry (rows .rank) i ≡ entry b (rank-at + i)
+  rank-entry : (i : ℕ) → i < 16 → entry (rows .table .rank) i ≡ entry b (rank-at + i)
   rank-entry i h = entry-is (λ j. entry b (rank-at + 1 * j)) 16 i h ∙ ap (λ k. entry b (rank-at + k)) (one-mul i)
 
   last-same : lastTest s ≡ Tests.lastGood b (s .last) (s .«open») (s .count)
@@ -162,16 +162,16 @@ module _ (b : List ℕ) where
       go true e = rw (row-entry run-at (entry b last-at) (ltb-true (entry b last-at) 16 e))
       go false e = rw (firm-entry used-at 0 (omega arith))
 
-  module _ (few : rows .n ≤ 16) (firms-few : s .count ≤ 8) (last-le : s .last ≤ 17) where
-    hard-same : (i : ℕ) → i < 16 → hardFault (ltb i (rows .n)) (bit (s .«open») i) (eqb i (s .last)) (entry (rows .c) i) (entry (rows .d) i) (entry (rows .t) i) (entry (rows .u) i) (entry (s .run) i)
-        ≡ Tests.hardFaultAt b (known (rows .n)) (s .«open») (rowMark (s .last)) i
-    hard-same i h = rw (row-entry C-at i h, row-entry D-at i h, row-entry T-at i h, row-entry U-at i h, row-entry run-at i h, ← bit-known (rows .n) i few, ← row-mark (s .last) i last-le h)
+  module _ (few : rows .table .n ≤ 16) (firms-few : s .count ≤ 8) (last-le : s .last ≤ 17) where
+    hard-same : (i : ℕ) → i < 16 → hardFault (ltb i (rows .table .n)) (bit (s .«open») i) (eqb i (s .last)) (entry (rows .table .c) i) (entry (rows .table .d) i) (entry (rows .table .t) i) (entry (rows .u) i) (entry (s .run) i)
+        ≡ Tests.hardFaultAt b (known (rows .table .n)) (s .«open») (rowMark (s .last)) i
+    hard-same i h = rw (row-entry C-at i h, row-entry D-at i h, row-entry T-at i h, row-entry U-at i h, row-entry run-at i h, ← bit-known (rows .table .n) i few, ← row-mark (s .last) i last-le h)
 
-    stamp-same : (i : ℕ) → i < 16 → stampFault (bit (s .rested) i || not (ltb i (rows .n))) (entry (rows .t) i) (s .clock) (entry (s .stamp) i)
-        ≡ Tests.stampFaultAt b (bitOr (s .rested) (others (known (rows .n)))) (s .clock) i
+    stamp-same : (i : ℕ) → i < 16 → stampFault (bit (s .rested) i || not (ltb i (rows .table .n))) (entry (rows .table .t) i) (s .clock) (entry (s .stamp) i)
+        ≡ Tests.stampFaultAt b (bitOr (s .rested) (others (known (rows .table .n)))) (s .clock) i
     stamp-same i h =
-        let e : (bit (s .rested) i || not (ltb i (rows .n))) ≡ bit (bitOr (s .rested) (others (known (rows .n)))) i =
-        sym (bit-or (s .rested) (others (known (rows .n))) i ∙ ap (λ x. bit (s .rested) i || x) (bit-others (known (rows .n)) i (known-lt (rows .n)) h ∙ ap not (bit-known (rows .n) i few))) in
+        let e : (bit (s .rested) i || not (ltb i (rows .table .n))) ≡ bit (bitOr (s .rested) (others (known (rows .table .n)))) i =
+        sym (bit-or (s .rested) (others (known (rows .table .n))) i ∙ ap (λ x. bit (s .rested) i || x) (bit-others (known (rows .table .n)) i (known-lt (rows .table .n)) h ∙ ap not (bit-known (rows .table .n) i few))) in
         rw (e, row-entry T-at i h, entry-is (λ j. le32 b (stamp-at + 4 * j)) 16 i h)
 
     firm-same : (j : ℕ) → j < 8 → firmFault (ltb j (s .count)) (eqb j 0 && eqb 16 (s .last)) (entry (s .budget) j) (entry (s .used) j)
@@ -182,7 +182,7 @@ module _ (b : List ℕ) where
         ≡ Tests.ticketFaultAt b (known (s .count)) (wrapped (s .next) (s .count)) j
     ticket-same j h = rw (entry-is (λ k. le32 b (ticket-at + 4 * k)) 8 j h, ← bit-known (s .count) j (omega arith))
 
-    rank-same : (i : ℕ) → i < rows .n → 2 ^ (entry (rows .rank) i % 32) ≡ rankBit b i
+    rank-same : (i : ℕ) → i < rows .table .n → 2 ^ (entry (rows .table .rank) i % 32) ≡ rankBit b i
     rank-same i h = rw (rank-entry i (omega arith))
 
     to-checked : TestsSay b → Checked rows s
@@ -193,9 +193,9 @@ module _ (b : List ℕ) where
       stamp = λ i h. stamp-same i h ∙ T .stamps i h;
       firm = λ j h. firm-same j h ∙ T .firms j h;
       ticket = λ j h. equal-xor (entry (s .ticket) j) (cond (ltb j (s .count)) ((wrapped (s .next) (s .count) + j) % 2 ^ 32) 0) (ticket-same j h ∙ T .tickets j h);
-      ranks = or-alike (λ i. 2 ^ (entry (rows .rank) i % 32)) (rankBit b) (rows .n) rank-same ∙ T .once;
+      ranks = or-alike (λ i. 2 ^ (entry (rows .table .rank) i % 32)) (rankBit b) (rows .table .n) rank-same ∙ T .once;
       rank-low = λ i h. rw (rank-entry i h) (omega (arith, le-or (λ j. entry b (rank-at + j)) 16 i h, T .low));
-      rank-past = λ i h n. rw (rank-entry i h) (rw (le-ltb i (rows .n) n) at (T .blank i h));
+      rank-past = λ i h n. rw (rank-entry i h) (rw (le-ltb i (rows .table .n) n) at (T .blank i h));
       open-le = T .opens;
       rested-le = T .rests;
       last-ok = last-same ∙ T .last;
@@ -203,7 +203,7 @@ module _ (b : List ℕ) where
 
     of-checked : Checked rows s → Free b → TestsSay b
     of-checked C F = record {
-      once = sym (or-alike (λ i. 2 ^ (entry (rows .rank) i % 32)) (rankBit b) (rows .n) rank-same) ∙ C .ranks;
+      once = sym (or-alike (λ i. 2 ^ (entry (rows .table .rank) i % 32)) (rankBit b) (rows .table .n) rank-same) ∙ C .ranks;
       low = or-below (λ j. entry b (rank-at + j)) 5 16 (λ i h. rw (rank-entry i h) at (C .rank-low i h));
       blank = past;
       runs = λ i h. sym (hard-same i h) ∙ C .row i h;
@@ -216,23 +216,23 @@ module _ (b : List ℕ) where
       free = F;
     }
       where
-        past : (i : ℕ) → i < 16 → Tests.pastFault b (rows .n) i ≡ 0
-        past i h = go (ltb i (rows .n)) refl
+        past : (i : ℕ) → i < 16 → Tests.pastFault b (rows .table .n) i ≡ 0
+        past i h = go (ltb i (rows .table .n)) refl
           where
-            go : (a : Bool) → ltb i (rows .n) ≡ a → cond a 0 (entry b (rank-at + i)) ≡ 0
+            go : (a : Bool) → ltb i (rows .table .n) ≡ a → cond a 0 (entry b (rank-at + i)) ≡ 0
             go true e = refl
-            go false e = rw (rank-entry i h) at (C .rank-past i h (ltb-false i (rows .n) e))
+            go false e = rw (rank-entry i h) at (C .rank-past i h (ltb-false i (rows .table .n) e))
 
   pub image-iff : (imageGood b ≡ true) ↔ (Checked rows s × Free b)
   unfolding imageGood
-  image-iff = (λ e. go (ltb 16 (rows .n)) refl (ltb 8 (s .count)) refl e, fro)
+  image-iff = (λ e. go (ltb 16 (rows .table .n)) refl (ltb 8 (s .count)) refl e, fro)
     where
-      go : (x : Bool) → ltb 16 (rows .n) ≡ x → (y : Bool) → ltb 8 (s .count) ≡ y → cond x false (cond y false (fieldsGood b (rows .n) (s .count) (s .last))) ≡ true → Checked rows s × Free b
+      go : (x : Bool) → ltb 16 (rows .table .n) ≡ x → (y : Bool) → ltb 8 (s .count) ≡ y → cond x false (cond y false (fieldsGood b (rows .table .n) (s .count) (s .last))) ≡ true → Checked rows s × Free b
       go true p y q e = absurd (false≢true e)
       go false p true q e = absurd (false≢true e)
       go false p false q e =
           let T = fields-iff b .0 e in
-          (to-checked (ltb-false 16 (rows .n) p) (ltb-false 8 (s .count) q) (last-low s (last-same ∙ T .last)) T, T .free)
+          (to-checked (ltb-false 16 (rows .table .n) p) (ltb-false 8 (s .count) q) (last-low s (last-same ∙ T .last)) T, T .free)
 
-      fro : Checked rows s × Free b → cond (ltb 16 (rows .n)) false (cond (ltb 8 (s .count)) false (fieldsGood b (rows .n) (s .count) (s .last))) ≡ true
-      fro (C, F) = rw (le-ltb 16 (rows .n) (C .few), le-ltb 8 (s .count) (C .firms-few)) (fields-iff b .1 (of-checked (C .few) (C .firms-few) (last-low s (C .last-ok)) C F))
+      fro : Checked rows s × Free b → cond (ltb 16 (rows .table .n)) false (cond (ltb 8 (s .count)) false (fieldsGood b (rows .table .n) (s .count) (s .last))) ≡ true
+      fro (C, F) = rw (le-ltb 16 (rows .table .n) (C .few), le-ltb 8 (s .count) (C .firms-few)) (fields-iff b .1 (of-checked (C .few) (C .firms-few) (last-low s (C .last-ok)) C F))

@@ -16,12 +16,12 @@ use Rattle.block.proofs.Stands.{Stands, behind}
 
 -- the numbers have the widths of the block
 pub record Fit (rows : Rows) (s : State) : Type 0 where
-  pub n-lt : rows .n < 2 ^ 8
-  pub c-lt : (i : ℕ) → entry (rows .c) i < 2 ^ 16
-  pub d-lt : (i : ℕ) → entry (rows .d) i < 2 ^ 16
-  pub t-lt : (i : ℕ) → entry (rows .t) i < 2 ^ 16
+  pub n-lt : rows .table .n < 2 ^ 8
+  pub c-lt : (i : ℕ) → entry (rows .table .c) i < 2 ^ 16
+  pub d-lt : (i : ℕ) → entry (rows .table .d) i < 2 ^ 16
+  pub t-lt : (i : ℕ) → entry (rows .table .t) i < 2 ^ 16
   pub u-lt : (i : ℕ) → entry (rows .u) i < 2 ^ 16
-  pub rank-lt : (i : ℕ) → entry (rows .rank) i < 2 ^ 8
+  pub rank-lt : (i : ℕ) → entry (rows .table .rank) i < 2 ^ 8
   pub clock-lt : s .clock < 2 ^ 32
   pub next-lt : s .next < 2 ^ 32
   pub open-lt : s .«open» < 2 ^ 16
@@ -41,32 +41,32 @@ module _ (rows : Rows) (s : State) (L : Long rows s) (F : Fit rows s) where
   firms = joined le16Bytes (s .budget) ++ (joined le16Bytes (s .used) ++ (joined le32Bytes (s .ticket) ++ reserved))
 
   abbrev jobs : List ℕ
-  jobs = joined le16Bytes (s .run) ++ (joined le32Bytes (s .stamp) ++ (joined le8Bytes (rows .rank) ++ firms))
+  jobs = joined le16Bytes (s .run) ++ (joined le32Bytes (s .stamp) ++ (joined le8Bytes (rows .table .rank) ++ firms))
 
-  c-stands : Stands (imageOf rows s) C-at (joined le16Bytes (rows .c)) (joined le16Bytes (rows .d) ++ (joined le16Bytes (rows .t) ++ (joined le16Bytes (rows .u) ++ jobs)))
+  c-stands : Stands (imageOf rows s) C-at (joined le16Bytes (rows .table .c)) (joined le16Bytes (rows .table .d) ++ (joined le16Bytes (rows .table .t) ++ (joined le16Bytes (rows .u) ++ jobs)))
   unfolding imageOf headBytes tableBytes jobsBytes queueBytes
   c-stands = record { is = simp append-assoc }
 
-  d-stands : Stands (imageOf rows s) D-at (joined le16Bytes (rows .d)) (joined le16Bytes (rows .t) ++ (joined le16Bytes (rows .u) ++ jobs))
-  d-stands = record { is = behind c-stands (joined-long form16 (rows .c) 16 (L .c-long)) }
+  d-stands : Stands (imageOf rows s) D-at (joined le16Bytes (rows .table .d)) (joined le16Bytes (rows .table .t) ++ (joined le16Bytes (rows .u) ++ jobs))
+  d-stands = record { is = behind c-stands (joined-long form16 (rows .table .c) 16 (L .c-long)) }
 
-  t-stands : Stands (imageOf rows s) T-at (joined le16Bytes (rows .t)) (joined le16Bytes (rows .u) ++ jobs)
-  t-stands = record { is = behind d-stands (joined-long form16 (rows .d) 16 (L .d-long)) }
+  t-stands : Stands (imageOf rows s) T-at (joined le16Bytes (rows .table .t)) (joined le16Bytes (rows .u) ++ jobs)
+  t-stands = record { is = behind d-stands (joined-long form16 (rows .table .d) 16 (L .d-long)) }
 
   u-stands : Stands (imageOf rows s) U-at (joined le16Bytes (rows .u)) jobs
-  u-stands = record { is = behind t-stands (joined-long form16 (rows .t) 16 (L .t-long)) }
+  u-stands = record { is = behind t-stands (joined-long form16 (rows .table .t) 16 (L .t-long)) }
 
-  run-stands : Stands (imageOf rows s) run-at (joined le16Bytes (s .run)) (joined le32Bytes (s .stamp) ++ (joined le8Bytes (rows .rank) ++ firms))
+  run-stands : Stands (imageOf rows s) run-at (joined le16Bytes (s .run)) (joined le32Bytes (s .stamp) ++ (joined le8Bytes (rows .table .rank) ++ firms))
   run-stands = record { is = behind u-stands (joined-long form16 (rows .u) 16 (L .u-long)) }
 
-  stamp-stands : Stands (imageOf rows s) stamp-at (joined le32Bytes (s .stamp)) (joined le8Bytes (rows .rank) ++ firms)
+  stamp-stands : Stands (imageOf rows s) stamp-at (joined le32Bytes (s .stamp)) (joined le8Bytes (rows .table .rank) ++ firms)
   stamp-stands = record { is = behind run-stands (joined-long form16 (s .run) 16 (L .run-long)) }
 
-  rank-stands : Stands (imageOf rows s) rank-at (joined le8Bytes (rows .rank)) firms
+  rank-stands : Stands (imageOf rows s) rank-at (joined le8Bytes (rows .table .rank)) firms
   rank-stands = record { is = behind stamp-stands (joined-long form32 (s .stamp) 16 (L .stamp-long)) }
 
   budget-stands : Stands (imageOf rows s) budget-at (joined le16Bytes (s .budget)) (joined le16Bytes (s .used) ++ (joined le32Bytes (s .ticket) ++ reserved))
-  budget-stands = record { is = behind rank-stands (joined-long form8 (rows .rank) 16 (L .rank-long)) }
+  budget-stands = record { is = behind rank-stands (joined-long form8 (rows .table .rank) 16 (L .rank-long)) }
 
   used-stands : Stands (imageOf rows s) used-at (joined le16Bytes (s .used)) (joined le32Bytes (s .ticket) ++ reserved)
   used-stands = record { is = behind budget-stands (joined-long form16 (s .budget) 8 (L .budget-long)) }
@@ -79,7 +79,7 @@ module _ (rows : Rows) (s : State) (L : Long rows s) (F : Fit rows s) where
 
   -- the numbers in front
 
-  n-back : entry (imageOf rows s) n-at ≡ rows .n
+  n-back : entry (imageOf rows s) n-at ≡ rows .table .n
   unfolding imageOf headBytes
   n-back = omega (arith, F .n-lt)
 
@@ -117,11 +117,11 @@ module _ (rows : Rows) (s : State) (L : Long rows s) (F : Fit rows s) where
   rows-back =
       rw (
         n-back,
-        numbers-back form16 (rows .c) c-stands (L .c-long) (F .c-lt),
-        numbers-back form16 (rows .d) d-stands (L .d-long) (F .d-lt),
-        numbers-back form16 (rows .t) t-stands (L .t-long) (F .t-lt),
+        numbers-back form16 (rows .table .c) c-stands (L .c-long) (F .c-lt),
+        numbers-back form16 (rows .table .d) d-stands (L .d-long) (F .d-lt),
+        numbers-back form16 (rows .table .t) t-stands (L .t-long) (F .t-lt),
         numbers-back form16 (rows .u) u-stands (L .u-long) (F .u-lt),
-        numbers-back form8 (rows .rank) rank-stands (L .rank-long) (F .rank-lt),
+        numbers-back form8 (rows .table .rank) rank-stands (L .rank-long) (F .rank-lt),
       )
 
   pub state-back : stateAt (imageOf rows s) ≡ s

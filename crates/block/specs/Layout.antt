@@ -16,7 +16,10 @@ use Rattle.block.specs.Words.{joined, le16, le16Bytes, le16sAt, le32, le
 
 -- what no tick changes
 abbrev pub rowsAt : List ℕ → Rows
-rowsAt b = record { n = entry b n-at; c = le16sAt b C-at 16; d = le16sAt b D-at 16; t = le16sAt b T-at 16; u = le16sAt b U-at 16; rank = le8sAt b rank-at 16 }
+rowsAt b = record {
+  table = record { n = entry b n-at; c = le16sAt b C-at 16; d = le16sAt b D-at 16; t = le16sAt b T-at 16; rank = le8sAt b rank-at 16 };
+  u = le16sAt b U-at 16;
+}
 
 -- what ticks and offers change
 abbrev pub stateAt : List ℕ → State
@@ -50,13 +53,17 @@ headBytes n s = n % 256 ∷ (marksBytes s ++ (0 ∷ numbersBytes s))
 
 -- from C-at
 unfoldable pub tableBytes : Rows → List ℕ
-tableBytes rows = joined le16Bytes (rows .c) ++ (joined le16Bytes (rows .d) ++ (joined le16Bytes (rows .t) ++ joined le16Bytes (rows .u)))
+tableBytes rows = joined le16Bytes (rows .table .c) ++ (joined le16Bytes (rows .table .d) ++ (joined le16Bytes (rows .table .t) ++ joined le16Bytes (rows .u)))
 
 -- from run-at
 unfoldable pub jobsBytes : State → List ℕ
 jobsBytes s = joined le16Bytes (s .run) ++ joined le32Bytes (s .stamp)
 
--- from budget-at; between the jobs and the queue stand the ranks
+-- from rank-at
+abbrev pub ranksBytes : Rows → List ℕ
+ranksBytes rows = joined le8Bytes (rows .table .rank)
+
+-- from budget-at
 unfoldable pub queueBytes : State → List ℕ
 queueBytes s = joined le16Bytes (s .budget) ++ (joined le16Bytes (s .used) ++ joined le32Bytes (s .ticket))
 
@@ -66,15 +73,15 @@ reserved = replicate reserved-bytes 0
 
 -- the whole
 unfoldable pub imageOf : Rows → State → List ℕ
-imageOf rows s = headBytes (rows .n) s ++ (tableBytes rows ++ (jobsBytes s ++ (joined le8Bytes (rows .rank) ++ (queueBytes s ++ reserved))))
+imageOf rows s = headBytes (rows .table .n) s ++ (tableBytes rows ++ (jobsBytes s ++ (ranksBytes rows ++ (queueBytes s ++ reserved))))
 
 -- the arrays have the lengths of their types
 pub record Long (rows : Rows) (s : State) : Type 0 where
-  pub c-long : length (rows .c) ≡ 16
-  pub d-long : length (rows .d) ≡ 16
-  pub t-long : length (rows .t) ≡ 16
+  pub c-long : length (rows .table .c) ≡ 16
+  pub d-long : length (rows .table .d) ≡ 16
+  pub t-long : length (rows .table .t) ≡ 16
   pub u-long : length (rows .u) ≡ 16
-  pub rank-long : length (rows .rank) ≡ 16
+  pub rank-long : length (rows .table .rank) ≡ 16
   pub run-long : length (s .run) ≡ 16
   pub stamp-long : length (s .stamp) ≡ 16
   pub budget-long : length (s .budget) ≡ 8

@@ -156,7 +156,7 @@ zeros n = replicate n 0
 abbrev pub refusedBlock : Decoded
 refusedBlock = record {
   ok = false;
-  rows = record { n = 0; c = zeros 16; d = zeros 16; t = zeros 16; u = zeros 16; rank = zeros 16 };
+  rows = record { table = record { n = 0; c = zeros 16; d = zeros 16; t = zeros 16; rank = zeros 16 }; u = zeros 16 };
   state = record {
     clock = 0;
     next = 0;

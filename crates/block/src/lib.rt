@@ -10,6 +10,7 @@ ghost use Rattle.block.specs.Layout.{encodedOn, writtenOn};
 ghost use Rattle.block.specs.Tests.{refusedBlock, decodedOf};
 use state::Rows;
 use state::State;
+use table::Table;
 
 // ok: the block is an image, of these rows and this state; else all of them are 0.
 pub struct Decoded {
@@ -74,16 +75,16 @@ fn no_rows() -> Rows
     let c = [0u16; 16];
     let d = [0u16; 16];
     let t = [0u16; 16];
-    let u = [0u16; 16];
     let rank = [0u8; 16];
-    Rows {
+    let table = Table {
         n: 0,
         c,
         d,
         t,
-        u,
         rank,
-    }
+    };
+    let u = [0u16; 16];
+    Rows { table, u }
 }
 
 fn no_state() -> State

@@ -7,6 +7,7 @@ use crate::places;
 use crate::words;
 use state::Rows;
 use state::State;
+use table::Table;
 
 pub fn rows_at(b: &[u8]) -> Rows
     requires { ⌜ length (now b) ≡ block-bytes ⌝ }
@@ -22,14 +23,14 @@ pub fn rows_at(b: &[u8]) -> Rows
     words::get16s(b, places::T_AT, &mut t);
     words::get16s(b, places::U_AT, &mut u);
     words::get8s(b, places::RANK_AT, &mut rank);
-    Rows {
+    let table = Table {
         n: words::size(b[places::N_AT]),
         c,
         d,
         t,
-        u,
         rank,
-    }
+    };
+    Rows { table, u }
 }
 
 pub fn state_at(b: &[u8]) -> State

@@ -3,7 +3,7 @@ ghost use mathlib.Core.Path.{_≡_};
 ghost use lib.ListN.{length};
 ghost use Rattle.block.specs.Places.{C-at, block-bytes, budget-at, clock-at, count-at, free-at, n-at, rank-at, reserved-at, run-at};
 ghost use Rattle.block.specs.Words.{Put};
-ghost use Rattle.block.specs.Layout.{headBytes, marksBytes, numbersBytes, tableBytes, jobsBytes, queueBytes, reserved, imageOf, stateOn};
+ghost use Rattle.block.specs.Layout.{headBytes, marksBytes, numbersBytes, tableBytes, jobsBytes, ranksBytes, queueBytes, reserved, imageOf, stateOn};
 use crate::places;
 use crate::words;
 use state::Rows;
@@ -13,11 +13,11 @@ pub fn put_image(rows: Rows, s: State, b: &mut [u8])
     requires { ⌜ length (now b) ≡ block-bytes ⌝ }
     ensures { λ _. ⌜ now (b .exit) ≡ imageOf rows s ⌝ }
 {
-    put_head(rows.n, s, b);
+    let table = rows.table;
+    put_head(table.n, s, b);
     put_table(rows, b);
     put_jobs(s, b);
-    let rank = rows.rank;
-    words::put8s(b, places::RANK_AT, &rank);
+    put_ranks(rows, b);
     put_queue(s, b);
     put_reserved(b);
 }
@@ -65,9 +65,10 @@ fn put_table(rows: Rows, b: &mut [u8])
     requires { ⌜ length (now b) ≡ block-bytes ⌝ }
     ensures { λ _. ⌜ Put (now (b .entry)) (now (b .exit)) (tableBytes rows) C-at run-at ⌝ }
 {
-    let c = rows.c;
-    let d = rows.d;
-    let t = rows.t;
+    let table = rows.table;
+    let c = table.c;
+    let d = table.d;
+    let t = table.t;
     let u = rows.u;
     words::put16s(b, places::C_AT, &c);
     words::put16s(b, places::D_AT, &d);
@@ -83,6 +84,15 @@ fn put_jobs(s: State, b: &mut [u8])
     let stamp = s.stamp;
     words::put16s(b, places::RUN_AT, &run);
     words::put32s(b, places::STAMP_AT, &stamp);
+}
+
+fn put_ranks(rows: Rows, b: &mut [u8])
+    requires { ⌜ length (now b) ≡ block-bytes ⌝ }
+    ensures { λ _. ⌜ Put (now (b .entry)) (now (b .exit)) (ranksBytes rows) rank-at budget-at ⌝ }
+{
+    let table = rows.table;
+    let rank = table.rank;
+    words::put8s(b, places::RANK_AT, &rank);
 }
 
 fn put_queue(s: State, b: &mut [u8])

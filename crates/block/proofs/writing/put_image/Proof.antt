@@ -1,6 +1,5 @@
 -- `writing::put_image` meets its contract: the parts one after the other are the whole. Assumes nothing.
 use mathlib.Core.Path.{refl}
-use native.Mathlib.Omega.{arith}
 use Rattle.block.specs.Layout.{imageOf}
 use Rattle.block.proofs.Arrays.{put-then, put-whole}
 use borrow.Author.Needs.{needs}
@@ -16,11 +15,8 @@ put-table-requires c κs = search needs
 put-jobs-requires : tie.Need-put-jobs-requires
 put-jobs-requires c κs = search needs
 
-slice-aggregate-put8s : tie.Need-slice-aggregate-put8s
-slice-aggregate-put8s c = search needs
-
-put8s-requires : tie.Need-put8s-requires
-put8s-requires c κs = omega (arith, slice-aggregate-put8s c)
+put-ranks-requires : tie.Need-put-ranks-requires
+put-ranks-requires c κs = search needs
 
 put-queue-requires : tie.Need-put-queue-requires
 put-queue-requires c κs = search needs
@@ -37,16 +33,16 @@ returns c =
     let free = c .before .before in
     let queue = free .before .before .before .before in
     let ranks = queue .before .before .before .before in
-    let jobs = ranks .before .before .before .before .before .before in
+    let jobs = ranks .before .before .before .before in
     let table = jobs .before .before .before .before in
     let head = table .before .before .before .before in
     put-whole
     (put-then (head .put-head .ensures) refl
     (put-then (table .put-table .ensures) refl
     (put-then (jobs .put-jobs .ensures) refl
-    (put-then (ranks .put8s .ensures) (omega (arith, slice-aggregate-put8s (ranks .before)))
+    (put-then (ranks .put-ranks .ensures) refl
     (put-then (queue .put-queue .ensures) refl (free .put-reserved .ensures))))))
-    (head .before .before .before .pre)
+    (head .before .before .before .before .pre)
 
 pub put-image-spec : {M : Type 1} → statement M
 put-image-spec =
@@ -55,8 +51,7 @@ put-image-spec =
     put-head-requires
     put-table-requires
     put-jobs-requires
-    slice-aggregate-put8s
-    put8s-requires
+    put-ranks-requires
     put-queue-requires
     put-reserved-requires
     same-length
