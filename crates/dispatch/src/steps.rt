@@ -4,7 +4,6 @@ ghost use Rattle.dispatch.specs.Steps.{advanced, bumped, chosenIn, close
 use crate::TickVerdict;
 use crate::Ticked;
 use crate::sets;
-use crate::sets::Best;
 use answer::Answer;
 use answer::Band;
 use answer::Closing;
