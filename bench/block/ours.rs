@@ -19,7 +19,7 @@ struct OfferAnswer {
 
 extern "C" {
     // crates/board: a slice as its pointer and length.
-    fn heechstjer_plan(table: *const u8, length: usize, block: *mut u8, size: usize) -> PlanAnswer;
+    fn heechstjer_plan(block: *mut u8, size: usize, table: *const u8, length: usize) -> PlanAnswer;
     fn heechstjer_tick(block: *mut u8, size: usize, set: u16, flags: u8) -> TickAnswer;
     fn heechstjer_offer(block: *mut u8, size: usize, budget: u16, deadline: u16) -> OfferAnswer;
 }
@@ -30,7 +30,7 @@ pub struct Block([u8; 512]);
 impl Block {
     fn planned(file: &[u8]) -> Block {
         let mut block = [255; 512];
-        let answer = unsafe { heechstjer_plan(file.as_ptr(), file.len(), block.as_mut_ptr(), 512) };
+        let answer = unsafe { heechstjer_plan(block.as_mut_ptr(), 512, file.as_ptr(), file.len()) };
         let PlanAnswer { from, size, refusal, row } = answer;
         assert_eq!((from, size, refusal, row), (0, 0, 0, 0), "the table is refused");
         Block(block)

@@ -5,6 +5,7 @@ mod checks; // checks.rt: is it the image of a state
 mod reading; // reading.rt: the rows and the state that stand in an image
 mod writing; // writing.rt: the parts of an image, put in their places
 
+pub use places::BLOCK_BYTES;
 ghost use mathlib.Core.Path.{_≡_};
 ghost use Rattle.block.specs.Layout.{encodedOn, writtenOn};
 ghost use Rattle.block.specs.Tests.{refusedBlock, decodedOf};

@@ -16,7 +16,7 @@ use Rattle.table.proofs.Places.{length-fill}
 use Rattle.state.specs.Fresh.{rowsFor, freshIn}
 use Rattle.state.proofs.PlannedRows.{planned-fresh}
 use Rattle.block.specs.Layout.{Long, imageOf}
-use Rattle.board.proofs.Held.{Held}
+use Rattle.board.proofs.Standing.{StandsFor}
 
 module _ (file : List ℕ) (bytes : Bytes file) (ps : List PlannedRow) (is-read : read file ≡ read-as ps) where
   -- the table that was read passes 6 to 10 with this plan, has at most 16 rows, and its numbers have the widths of the file
@@ -30,7 +30,7 @@ module _ (file : List ℕ) (bytes : Bytes file) (ps : List PlannedRow) (is-read 
   pub planned-rows : plan (map (λ p. p .row) ps) ≡ planned ps
   planned-rows = planned-narrow .0
 
-  long : Long (rowsFor ps) (freshIn (rowsFor ps .n))
+  long : Long (rowsFor ps) (freshIn (rowsFor ps .table .n))
   unfolding freshIn
   long = record {
     c-long = length-fill 16 (map (λ r. r .C) (map (λ p. p .row) ps));
@@ -45,13 +45,13 @@ module _ (file : List ℕ) (bytes : Bytes file) (ps : List PlannedRow) (is-read 
     ticket-long = refl;
   }
 
-  pub fresh-held : Held (imageOf (rowsFor ps) (freshIn (rowsFor ps .n))) (freshStation ps)
-  fresh-held =
+  pub fresh-stands : StandsFor (imageOf (rowsFor ps) (freshIn (rowsFor ps .table .n))) (freshStation ps)
+  fresh-stands =
       let (plan-is, few, narrow) = planned-narrow in
       let (station-is, stored) = planned-fresh ps few plan-is narrow in
       record {
         rows = rowsFor ps;
-        state = freshIn (rowsFor ps .n);
+        state = freshIn (rowsFor ps .table .n);
         imaged = record { stored = stored; long = long };
         block-is = refl;
         station-is = station-is;

@@ -19,21 +19,21 @@ use Rattle.table.specs.Memory.{indexed, rowAt}
 use Rattle.state.specs.Meaning.{rowsFrom, slotAt, stationOf}
 use Rattle.state.specs.declared.Rows.{Rows}
 use Rattle.state.specs.declared.State.{State}
-use Rattle.board.specs.Blocks.{giving, tableBlock, tableIn, writingOn}
+use Rattle.board.specs.Blocks.{giving, tableBlock, writingOn}
 use Rattle.board.specs.Numbers.{refusedTable}
 use Rattle.board.specs.Promises.{blockAfter}
-use Rattle.board.proofs.Held.{Held, after-held}
+use Rattle.board.proofs.Standing.{StandsFor, after-stands}
 use Rattle.board.proofs.Refusals.{decoded}
 
-rows-are : (rows : Rows) (s : State) (i n : ℕ) → indexed (rowAt (tableIn rows)) i n ≡ rowsOf (rowsFrom (slotAt rows s) i n)
+rows-are : (rows : Rows) (s : State) (i n : ℕ) → indexed (rowAt (rows .table)) i n ≡ rowsOf (rowsFrom (slotAt rows s) i n)
 unfolding rowsFrom
 rows-are rows s i zero = refl
-rows-are rows s i (suc n) = ap (λ rs. rowAt (tableIn rows) i ∷ rs) (rows-are rows s (suc i) n)
+rows-are rows s i (suc n) = ap (λ rs. rowAt (rows .table) i ∷ rs) (rows-are rows s (suc i) n)
 
-pub table-held : {b : List ℕ} {st : Station} → Held b st → (out : List ℕ) → tableBlock b out ≡ writingOn (write (rowsOf (st .slots)) out) out
+pub table-stands : {b : List ℕ} {st : Station} → StandsFor b st → (out : List ℕ) → tableBlock b out ≡ writingOn (write (rowsOf (st .slots)) out) out
 unfolding tableBlock stationOf
-table-held H out =
-    rw (decoded H, ← (H .station-is)) (ap (λ rs. writingOn (write rs out) out) (rows-are (H .rows) (H .state) 0 (H .rows .n)))
+table-stands H out =
+    rw (decoded H, ← (H .station-is)) (ap (λ rs. writingOn (write rs out) out) (rows-are (H .rows) (H .state) 0 (H .rows .table .n)))
 
 module _ (file : List ℕ) (bytes : Bytes file) (ps : List PlannedRow) (is-read : read file ≡ read-as ps) where
   abbrev rs : List Row
@@ -48,10 +48,10 @@ module _ (file : List ℕ) (bytes : Bytes file) (ps : List PlannedRow) (is-read 
   write-file out =
       rw (le-ltb 16 (length rs) (omega (arith, length-map ps (λ p. p .row), accepted .few)), table-promises .planned-iff rs ps .1 (accepted .plan-is), ← (accepted .bytes-are))
 
-  module _ {b : List ℕ} (H : Held b (freshStation ps)) (before : List Call) (short : AllShort before) (out : List ℕ) where
+  module _ {b : List ℕ} (H : StandsFor b (freshStation ps)) (before : List Call) (short : AllShort before) (out : List ℕ) where
     table-after : tableBlock (blockAfter b before) out ≡ writingOn (put file out) out
     table-after =
-        table-held (after-held before b (freshStation ps) short H) out
+        table-stands (after-stands before b (freshStation ps) short H) out
         ∙ ap (λ l. writingOn (write l out) out) (rows-after rs before (freshStation ps) (fresh-rows ps))
         ∙ ap (λ w. writingOn w out) (write-file out)
 

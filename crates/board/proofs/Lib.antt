@@ -1,6 +1,6 @@
 pub mod Ways
 pub mod Named
-pub mod Held
+pub mod Standing
 pub mod Fresh
 pub mod Refusals
 pub mod InForce

@@ -19,7 +19,7 @@ use Rattle.answer.specs.declared.RunnerNumbers.{RunnerNumbers}
 use Rattle.dispatch.specs.Verdicts.{verdictOf}
 use Rattle.board.specs.Numbers.{steppedTick, tickNumbers}
 use Rattle.board.specs.Blocks.{verdictOn}
-use Rattle.board.specs.Promises.{closingIn, named, runnerIn, tickReply}
+use Rattle.board.specs.Promises.{closingRead, named, runnerRead, tickReply}
 
 -- a refusal has a number from 1 on, which names it
 pub named-back : (why : Refusal) → (eqb (number why) 0 ≡ false) × (named (number why) ≡ why)
@@ -47,14 +47,14 @@ named-back unknown-flag = (refl, refl)
 row-back : (k : ℕ) → k + 1 - 1 ≡ k
 row-back k = omega arith
 
-runner-back : (clock : ℕ) (r : Runner) (x : ClosingNumbers) → runnerIn (tickNumbers clock (runnerNumbers (runnerOf r)) x) ≡ r
+runner-back : (clock : ℕ) (r : Runner) (x : ClosingNumbers) → runnerRead (tickNumbers clock (runnerNumbers (runnerOf r)) x) ≡ r
 runner-back clock (hard k upper) x = ap (λ i. hard i upper) (row-back k)
 runner-back clock (hard k lower) x = ap (λ i. hard i lower) (row-back k)
 runner-back clock (firm t) x = refl
 runner-back clock soft x = refl
 runner-back clock idle x = refl
 
-closing-back : (clock : ℕ) (x : RunnerNumbers) (c : Closing) → closingIn (tickNumbers clock x (closingNumbers (closingOf c))) ≡ c
+closing-back : (clock : ℕ) (x : RunnerNumbers) (c : Closing) → closingRead (tickNumbers clock x (closingNumbers (closingOf c))) ≡ c
 closing-back clock x nothing = refl
 closing-back clock x (hard-job k done) = ap (λ i. hard-job i done) (row-back k)
 closing-back clock x (hard-job k spent) = ap (λ i. hard-job i spent) (row-back k)

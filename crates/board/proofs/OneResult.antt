@@ -5,8 +5,8 @@ use Rattle.rules.specs.OneResult.{One}
 use Rattle.rules.proofs.OneResult.{one-result}
 use Rattle.board.specs.Blocks.{offerBlock, planBlock, tableBlock, tickBlock}
 
-pub heechstjer-plan : (table block : List ℕ) → One (planBlock table block .answer) × One (planBlock table block .block)
-heechstjer-plan table block = (one-result, one-result)
+pub heechstjer-plan : (block table : List ℕ) → One (planBlock block table .answer) × One (planBlock block table .block)
+heechstjer-plan block table = (one-result, one-result)
 
 pub heechstjer-tick : (block : List ℕ) (set flags : ℕ) → One (tickBlock block set flags .answer) × One (tickBlock block set flags .block)
 heechstjer-tick block set flags = (one-result, one-result)

@@ -7,9 +7,10 @@ use native.Mathlib.Omega.{arith}
 use lib.Dec.{eqb, leb, ltb}
 use lib.ListN.{length}
 use Rattle.rules.specs.Calls.{doneFlag, otherFlag, softFlag}
-use Rattle.rules.specs.File.{Reading, Writing, read, read-as, unread, unwritten, write, written}
+use Rattle.rules.specs.File.{Reading, Writing, read, read-as, scan, unread, unwritten, write, written}
 use Rattle.rules.specs.Refusals.{not-image, number, unknown-flag}
 use Rattle.rules.specs.Station.{Station}
+use Rattle.table.specs.Answers.{scanRow}
 use Rattle.table.specs.Memory.{rowsOf}
 use Rattle.state.specs.declared.Rows.{Rows}
 use Rattle.state.specs.declared.State.{State}
@@ -21,21 +22,22 @@ use Rattle.offer.specs.declared.Offered.{Offered}
 use Rattle.offer.specs.declared.Offered.the-variants.{Refused, Ticket}
 use Rattle.offer.specs.declared.OfferMade.{OfferMade}
 use Rattle.offer.specs.Steps.{claimsOf, offerMade, refusedBy, ticketFor, unrunOf}
+use Rattle.block.specs.Places.{block-bytes}
 use Rattle.block.specs.Tests.{decodedAs, decodedOf}
 use Rattle.block.proofs.Results.{block-promises}
-use Rattle.board.specs.Blocks.{giving, madeOn, offerBlock, offeredOn, planBlock, planOf, tableBlock, tableIn, tickBlock, tickDecoded, tickedOn, verdictOn, writingOn}
+use Rattle.board.specs.Blocks.{giving, madeOn, offerBlock, offeredOn, planBlock, plannedOn, tableBlock, tickBlock, tickDecoded, tickedOn, verdictOn, writingOn}
 use Rattle.board.specs.Numbers.{refusedOffer, refusedPlan, refusedTable, refusedTick}
 use Rattle.board.specs.Promises.{Untouched}
-use Rattle.board.proofs.Held.{Held}
+use Rattle.board.proofs.Standing.{StandsFor}
 
 -- a refusal leaves the block, or the output, as it was
 
-plan-refused : (file b : List ℕ) → (planBlock file b .answer .refusal ≡ 0 → ⊥) → planBlock file b .block ≡ b
+plan-refused : (b file : List ℕ) → (planBlock b file .answer .refusal ≡ 0 → ⊥) → planBlock b file .block ≡ b
 unfolding planBlock
-plan-refused file b = go (eqb (length b) 512) (read file)
+plan-refused b file = go (eqb (length b) block-bytes) (read file)
   where
-    go : (f : Bool) (R : Reading) → (cond f (planOf R b) (giving (refusedPlan (number not-image) 0 0) b) .answer .refusal ≡ 0 → ⊥)
-        → cond f (planOf R b) (giving (refusedPlan (number not-image) 0 0) b) .block ≡ b
+    go : (f : Bool) (R : Reading) → (cond f (plannedOn b (scanRow (scan 16 0 file)) R) (giving (refusedPlan (number not-image) 0 0 0) b) .answer .refusal ≡ 0 → ⊥)
+        → cond f (plannedOn b (scanRow (scan 16 0 file)) R) (giving (refusedPlan (number not-image) 0 0 0) b) .block ≡ b
     go true (read-as ps) h = absurd (h refl)
     go true (unread why from size) h = refl
     go false R h = refl
@@ -80,7 +82,7 @@ module _ (b : List ℕ) (B d : ℕ) where
 
 table-refused : (b out : List ℕ) → (tableBlock b out .answer .refusal ≡ 0 → ⊥) → tableBlock b out .block ≡ out
 unfolding tableBlock
-table-refused b out = go (decodedOf b .ok) (write (rowsOf (tableIn (decodedOf b .rows))) out)
+table-refused b out = go (decodedOf b .ok) (write (rowsOf (decodedOf b .rows .table)) out)
   where
     go : (ok : Bool) (w : Writing) → (cond ok (writingOn w out) (giving (refusedTable (number not-image)) out) .answer .refusal ≡ 0 → ⊥)
         → cond ok (writingOn w out) (giving (refusedTable (number not-image)) out) .block ≡ out
@@ -111,7 +113,7 @@ offered-not-11 rows s B d b = go (eqb B 0) (ltb d B) (leb 8 (s .count)) (leb (cl
     go false false false true e = omega arith
     go false false false false e = omega arith
 
-module _ {b : List ℕ} {st : Station} (H : Held b st) where
+module _ {b : List ℕ} {st : Station} (H : StandsFor b st) where
   pub decoded : decodedOf b ≡ decodedAs (H .rows) (H .state)
   decoded = rw (← (H .block-is)) (block-promises .decode-encode (H .rows) (H .state) (H .imaged))
 

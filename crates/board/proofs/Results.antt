@@ -10,7 +10,7 @@ use borrow.Author.Tests.{eqb-false}
 use lib.ListN.{length}
 use Rattle.rules.specs.Bound.{PlannedRow, planned}
 use Rattle.rules.specs.Calls.{AllShort, Call, Short, acceptances, after, afterOffer, afterTick, answered, doneFlag, offer-call, replies, softFlag, step, tick-call, tickCall, ticks, took}
-use Rattle.rules.specs.File.{Reading, read, read-as, unread}
+use Rattle.rules.specs.File.{Reading, read, read-as, scan, unread}
 use Rattle.rules.specs.Offer.{Offered, accepted, no-offer, offer}
 use Rattle.rules.specs.Promise.{Demand3, HardPromise, OnOffered, OnTicked, TrueTime, UploadPromise}
 use Rattle.rules.specs.Refusals.{not-image, number}
@@ -21,12 +21,14 @@ use Rattle.rules.specs.Tick.{Answer, Ticked, closedAs, done, no-tick, ticked}
 use Rattle.rules.proofs.Calls.{on-call}
 use Rattle.rules.proofs.Results.{demand-3, done-is-told, in-true-time}
 use Rattle.state.specs.Fresh.{rowsFor, freshIn}
+use Rattle.table.specs.Answers.{scanRow}
 use Rattle.block.specs.Layout.{imageOf}
-use Rattle.board.specs.Blocks.{giving, planBlock, planOf}
+use Rattle.block.specs.Places.{block-bytes}
+use Rattle.board.specs.Blocks.{giving, planBlock, plannedOn}
 use Rattle.board.specs.Numbers.{refusedPlan}
 use Rattle.board.specs.Promises.{AnyBlock, HardOnBlock, OnBlocks, Promises, UploadOnBlock, blockAfter, blockOn, blockReplies, replyOn}
-use Rattle.board.proofs.Fresh.{fresh-held, planned-rows}
-use Rattle.board.proofs.Held.{Held, accepted-held, after-held, replies-held, step-held}
+use Rattle.board.proofs.Fresh.{fresh-stands, planned-rows}
+use Rattle.board.proofs.Standing.{StandsFor, accepted-stands, after-stands, replies-stands, step-stands}
 use Rattle.board.proofs.InForce.{table-19, table-back}
 use Rattle.board.proofs.Named.{named-back}
 use Rattle.board.proofs.Refusals.{offer-not-11, tick-not-11}
@@ -41,9 +43,9 @@ on-ticket : (P : Station → ℕ → Type 0) (st : Station) (O : Offered) (t : �
 on-ticket P st (accepted st′ u) t p e = let same : u ≡ t = cc in subst (P st′) same p
 on-ticket P st (no-offer why) t p e = let z : _≡_ {A = ℕ} 0 1 = cc in absurd (omega arith)
 
-module _ (b : List ℕ) (st : Station) (H : Held b st) where
+module _ (b : List ℕ) (st : Station) (H : StandsFor b st) where
   answers : (later : List Call) → AllShort later → replies st later ≡ blockReplies b later
-  answers later h = sym (replies-held later b st h H)
+  answers later h = sym (replies-stands later b st h H)
 
   hard-on-block : (k : ℕ) (r : Row) (x : Answer) → HardPromise k r st x → HardOnBlock k r b x
   hard-on-block k r x p = record {
@@ -57,14 +59,14 @@ module _ (b : List ℕ) (st : Station) (H : Held b st) where
     never-more = λ later h. rw (answers later h) at (p .never-more later);
   }
 
-module _ (file : List ℕ) (bytes : Bytes file) (ps : List PlannedRow) (is-read : read file ≡ read-as ps) (b : List ℕ) (D : Demand3 (map (λ p. p .row) ps) (freshStation ps)) (T : TrueTime (freshStation ps)) (H : Held b (freshStation ps)) where
+module _ (file : List ℕ) (bytes : Bytes file) (ps : List PlannedRow) (is-read : read file ≡ read-as ps) (b : List ℕ) (D : Demand3 (map (λ p. p .row) ps) (freshStation ps)) (T : TrueTime (freshStation ps)) (H : StandsFor b (freshStation ps)) where
   module _ (before : List Call) (short : AllShort before) where
     -- the station when the calls have been made
     abbrev st : Station
     st = after (freshStation ps) before
 
-    held : Held (blockAfter b before) st
-    held = after-held before b (freshStation ps) short H
+    stands : StandsFor (blockAfter b before) st
+    stands = after-stands before b (freshStation ps) short H
 
     before-are : replies (freshStation ps) before ≡ blockReplies b before
     before-are = answers b (freshStation ps) H before short
@@ -73,20 +75,20 @@ module _ (file : List ℕ) (bytes : Bytes file) (ps : List PlannedRow) (is-read 
     of-tick : (P : Station → Answer → Type 0) (set flags : ℕ) (x : Answer) → Short (tick-call set flags) → OnTicked P (tickCall st set flags)
         → replyOn (blockAfter b before) (tick-call set flags) ≡ answered x → P (step st (tick-call set flags) .station) x
     of-tick P set flags x h p e =
-        on-answer P st (tickCall st set flags) x p (sym (step-held (blockAfter b before) st (tick-call set flags) h held .0) ∙ e)
+        on-answer P st (tickCall st set flags) x p (sym (step-stands (blockAfter b before) st (tick-call set flags) h stands .0) ∙ e)
 
     of-offer : (P : Station → ℕ → Type 0) (B d t : ℕ) → Short (offer-call B d) → OnOffered P (offer st B d)
         → replyOn (blockAfter b before) (offer-call B d) ≡ took t → P (step st (offer-call B d) .station) t
     of-offer P B d t h p e =
-        on-ticket P st (offer st B d) t p (sym (step-held (blockAfter b before) st (offer-call B d) h held .0) ∙ e)
+        on-ticket P st (offer st B d) t p (sym (step-stands (blockAfter b before) st (offer-call B d) h stands .0) ∙ e)
 
-    after-call : (c : Call) → Short c → Held (blockOn (blockAfter b before) c) (step st c .station)
-    after-call c h = step-held (blockAfter b before) st c h held .1
+    after-call : (c : Call) → Short c → StandsFor (blockOn (blockAfter b before) c) (step st c .station)
+    after-call c h = step-stands (blockAfter b before) st c h stands .1
 
   on-blocks : OnBlocks file ps b
   on-blocks = record {
-    tick-not-11 = λ before h set flags. tick-not-11 (held before h) set flags;
-    offer-not-11 = λ before h B d. offer-not-11 (held before h) B d;
+    tick-not-11 = λ before h set flags. tick-not-11 (stands before h) set flags;
+    offer-not-11 = λ before h B d. offer-not-11 (stands before h) B d;
     replies-are = λ cs h. sym (answers b (freshStation ps) H cs h);
     hard-jobs = λ before h set flags k r x short e is a.
         hard-on-block (blockOn (blockAfter b before) (tick-call set flags)) (step (st before h) (tick-call set flags) .station) (after-call before h (tick-call set flags) short) k r x
@@ -107,23 +109,23 @@ module _ (file : List ℕ) (bytes : Bytes file) (ps : List PlannedRow) (is-read 
 
 -- of any bytes that decode accepts
 pub any-block : AnyBlock
-any-block b bytes ok = let (st, image, H) = accepted-held b bytes ok in (st, image, λ cs h. replies-held cs b st h H)
+any-block b bytes ok = let (st, image, H) = accepted-stands b bytes ok in (st, image, λ cs h. replies-stands cs b st h H)
 
 -- where planning answers 0
 pub promises : Promises
 unfolding planBlock
-promises file b bytes e = go (eqb (length b) 512) (read file) refl e
+promises b file bytes e = go (eqb (length b) block-bytes) (read file) refl e
   where
-    go : (f : Bool) (R : Reading) → read file ≡ R → cond f (planOf R b) (giving (refusedPlan (number not-image) 0 0) b) .answer .refusal ≡ 0
-        → (ps : List PlannedRow) × (R ≡ read-as ps) × OnBlocks file ps (cond f (planOf R b) (giving (refusedPlan (number not-image) 0 0) b) .block)
+    go : (f : Bool) (R : Reading) → read file ≡ R → cond f (plannedOn b (scanRow (scan 16 0 file)) R) (giving (refusedPlan (number not-image) 0 0 0) b) .answer .refusal ≡ 0
+        → (ps : List PlannedRow) × (R ≡ read-as ps) × OnBlocks file ps (cond f (plannedOn b (scanRow (scan 16 0 file)) R) (giving (refusedPlan (number not-image) 0 0 0) b) .block)
     go true (read-as ps) q z =
         let planned = planned-rows file bytes ps q in (
           ps,
           refl,
-          on-blocks file bytes ps q (imageOf (rowsFor ps) (freshIn (rowsFor ps .n)))
+          on-blocks file bytes ps q (imageOf (rowsFor ps) (freshIn (rowsFor ps .table .n)))
               (rw planned at (demand-3 (map (λ p. p .row) ps)))
               (rw planned at (in-true-time (map (λ p. p .row) ps)))
-              (fresh-held file bytes ps q),
+              (fresh-stands file bytes ps q),
         )
     go true (unread why from size) q z = absurd (eqb-false (number why) 0 (named-back why .0) z)
     go false R q z = absurd (omega arith)

@@ -17,8 +17,8 @@ use Rattle.rules.proofs.ImageIs.{image-iff}
 use Rattle.block.specs.Tests.{decodedOf}
 use Rattle.board.specs.Blocks.{tableBlock, writingOn}
 use Rattle.board.specs.Promises.{TableNumber, TableNumbers}
-use Rattle.board.proofs.Held.{accepted-held}
-use Rattle.board.proofs.InForce.{table-held}
+use Rattle.board.proofs.Standing.{accepted-stands}
+use Rattle.board.proofs.InForce.{table-stands}
 
 -- the iteration of a row refuses with 10
 abbrev Passes : Plan → Type 0
@@ -52,9 +52,9 @@ write-number rs few no-fault out = rw (le-ltb 16 (length rs) few, no-fault) (pla
 
 image-number : (b out : List ℕ) → Bytes b → decodedOf b .ok ≡ true → TableNumber (tableBlock b out .answer .refusal)
 image-number b out bytes ok =
-    let (st, image, H) = accepted-held b bytes ok in
+    let (st, image, H) = accepted-stands b bytes ok in
     let T = image-iff st .0 image .table in
-    rw (table-held H out) (write-number _ (T .few) (T .no-fault) out)
+    rw (table-stands H out) (write-number _ (T .few) (T .no-fault) out)
 
 pub table-numbers : TableNumbers
 unfolding tableBlock

@@ -7,14 +7,13 @@ use native.Mathlib.Omega.{arith}
 use lib.ListN.{length}
 use borrow.Author.Tests.{eq-eqb, le-leb, lt-leb, ne-eqb}
 use Rattle.rules.specs.Calls.{doneFlag, softFlag}
-use Rattle.rules.specs.File.{Reading, read, read-as, unread, write}
+use Rattle.rules.specs.File.{Reading, read, read-as, scan, unread, write}
 use Rattle.rules.specs.Refusals.{not-image, number, unknown-flag}
-use Rattle.table.specs.Answers.{heldOf, readingOf, writtenOf}
+use Rattle.table.specs.Answers.{fileRead, outputAfter, readingOf, scanRow, writtenOf}
 use Rattle.table.specs.Memory.{rowsOf}
-use Rattle.table.specs.declared.Refusal.{Refusal}
-use Rattle.table.specs.declared.Table.{Table}
+use Rattle.table.specs.declared.FileRefusal.{FileRefusal}
+use Rattle.table.specs.declared.FileVerdict.{FileVerdict}
 use Rattle.table.specs.declared.TableRead.{TableRead}
-use Rattle.table.specs.declared.Verdict as table
 use Rattle.table.specs.declared.Written.{Written}
 use Rattle.state.specs.declared.Rows.{Rows}
 use Rattle.state.specs.declared.State.{State}
@@ -27,8 +26,9 @@ use Rattle.offer.specs.declared.OfferMade.{OfferMade}
 use Rattle.offer.specs.Steps.{offerMade}
 use Rattle.block.specs.declared.Decoded.{Decoded}
 use Rattle.block.specs.Layout.{encodedOn, imageOf}
+use Rattle.block.specs.Places.{block-bytes}
 use Rattle.block.specs.Tests.{decodedOf}
-use Rattle.board.specs.Blocks.{Out, giving, offerBlock, offeredOn, planBlock, planOf, tableBlock, tableIn, tickBlock, tickDecoded, verdictOn}
+use Rattle.board.specs.Blocks.{Out, giving, offerBlock, offeredOn, planBlock, plannedOn, tableBlock, tickBlock, tickDecoded, verdictOn}
 use Rattle.board.specs.Numbers.{donePlan, refusedOffer, refusedPlan, refusedTable, refusedTick, writtenTable}
 
 -- both halves of what a function gives
@@ -72,38 +72,45 @@ module _ (b out : List ℕ) (x : Decoded) (e : x ≡ decodedOf b) where
   unfolding tableBlock
   no-table-way bad = rw (← e, bad)
 
-  pub written-way : x .ok ≡ true → (tb : Table) → tb ≡ tableIn (x .rows) → (w : Written) → writtenOf (write (rowsOf tb) out) ≡ w
-      → tableBlock b out ≡ giving (writtenTable w) (heldOf out (write (rowsOf tb) out))
+  pub written-way : x .ok ≡ true → (w : Written) → writtenOf (write (rowsOf (x .rows .table)) out) ≡ w
+      → tableBlock b out ≡ giving (writtenTable w) (outputAfter out (write (rowsOf (x .rows .table)) out))
   unfolding tableBlock
-  written-way good tb is w we = rw (← e, good, ← is, we)
+  written-way good w we = rw (← e, good, we)
 
 -- planning
 
-module _ (file b : List ℕ) where
-  pub short-way : (length b ≡ 512 → ⊥) → planBlock file b ≡ giving (refusedPlan (number not-image) 0 0) b
+module _ (b file : List ℕ) where
+  pub short-way : (length b ≡ block-bytes → ⊥) → planBlock b file ≡ giving (refusedPlan (number not-image) 0 0 0) b
   unfolding planBlock
-  short-way h = rw (ne-eqb (length b) 512 h)
+  short-way h = rw (ne-eqb (length b) block-bytes h)
 
-  module _ (h : length b ≡ 512) (r : TableRead) (e : r ≡ readingOf (read file)) where
-    read-way : planBlock file b ≡ planOf (read file) b
+  module _ (h : length b ≡ block-bytes) (r : TableRead) (e : r ≡ fileRead file) where
+    abbrev row : ℕ
+    row = scanRow (scan 16 0 file)
+
+    read-way : planBlock b file ≡ plannedOn b row (read file)
     unfolding planBlock
-    read-way = rw (eq-eqb (length b) 512 h)
+    read-way = rw (eq-eqb (length b) block-bytes h)
 
-    pub refused-way : (x : Refusal) → r .verdict ≡ table.Verdict.Refused x → planBlock file b ≡ giving (refusedPlan (x .number) (x .from) (x .size)) b
-    refused-way x v = read-way ∙ go (read file) (sym (ap (λ (a : TableRead). a .verdict) e) ∙ v)
+    is-read : r ≡ readingOf row (read file)
+    unfolding fileRead
+    is-read = e
+
+    pub refused-way : (x : FileRefusal) → r .verdict ≡ FileVerdict.Refused x → planBlock b file ≡ giving (refusedPlan (x .number) (x .row) (x .from) (x .size)) b
+    refused-way x v = read-way ∙ go (read file) (sym (ap (λ (a : TableRead). a .verdict) is-read) ∙ v)
       where
-        go : (R : Reading) → readingOf R .verdict ≡ table.Verdict.Refused x → planOf R b ≡ giving (refusedPlan (x .number) (x .from) (x .size)) b
+        go : (R : Reading) → readingOf row R .verdict ≡ FileVerdict.Refused x → plannedOn b row R ≡ giving (refusedPlan (x .number) (x .row) (x .from) (x .size)) b
         go (read-as ps) q = let z : _≡_ {A = ℕ} 0 1 = cc in absurd (omega arith)
-        go (unread why from size) q = let same : _≡_ {A = Refusal} (record { number = number why; from = from; size = size }) x = cc in rw (← same)
+        go (unread why from size) q = let same : _≡_ {A = FileRefusal} (record { number = number why; row = row; from = from; size = size }) x = cc in rw (← same)
 
-    pub planned-way : r .verdict ≡ table.Verdict.Accepted → planBlock file b ≡ giving donePlan (imageOf (plannedRows (r .table) (r .plan)) (freshIn (r .table .n)))
-    planned-way v = read-way ∙ go (read file) e (sym (ap (λ (a : TableRead). a .verdict) e) ∙ v)
+    pub planned-way : r .verdict ≡ FileVerdict.Accepted → planBlock b file ≡ giving donePlan (imageOf (plannedRows (r .table) (r .plan)) (freshIn (r .table .n)))
+    planned-way v = read-way ∙ go (read file) is-read (sym (ap (λ (a : TableRead). a .verdict) is-read) ∙ v)
       where
-        go : (R : Reading) → r ≡ readingOf R → readingOf R .verdict ≡ table.Verdict.Accepted
-            → planOf R b ≡ giving donePlan (imageOf (plannedRows (r .table) (r .plan)) (freshIn (r .table .n)))
+        go : (R : Reading) → r ≡ readingOf row R → readingOf row R .verdict ≡ FileVerdict.Accepted
+            → plannedOn b row R ≡ giving donePlan (imageOf (plannedRows (r .table) (r .plan)) (freshIn (r .table .n)))
         go (read-as ps) i q = rw i
         go (unread why from size) i q = let z : _≡_ {A = ℕ} 0 1 = cc in absurd (omega arith)
 
-pub encoded-whole : (b : List ℕ) (rows : Rows) (s : State) → length b ≡ 512 → encodedOn b rows s ≡ imageOf rows s
+pub encoded-whole : (b : List ℕ) (rows : Rows) (s : State) → length b ≡ block-bytes → encodedOn b rows s ≡ imageOf rows s
 unfolding encodedOn
-encoded-whole b rows s h = rw (eq-eqb (length b) 512 h)
+encoded-whole b rows s h = rw (eq-eqb (length b) block-bytes h)

@@ -5,13 +5,11 @@ use mathlib.Core.List.{List}
 use lib.Dec.{eqb}
 use lib.ListN.{length}
 use Rattle.rules.specs.Calls.{doneFlag, otherFlag, softFlag}
-use Rattle.rules.specs.File.{Reading, Writing, read, read-as, unread, write}
+use Rattle.rules.specs.File.{Reading, Writing, read, read-as, scan, unread, write}
 use Rattle.rules.specs.Refusals.{none-ran, not-image, not-ready, number, unknown-flag, unknown-row}
-use Rattle.table.specs.Answers.{heldOf, writtenOf}
+use Rattle.table.specs.Answers.{outputAfter, scanRow, writtenOf}
 use Rattle.table.specs.Memory.{rowsOf}
-use Rattle.table.specs.declared.Table.{Table}
 use Rattle.state.specs.Fresh.{rowsFor, freshIn}
-use Rattle.state.specs.declared.Rows.{Rows}
 use Rattle.state.specs.declared.State.{State}
 use Rattle.answer.specs.Numbers.{rowNumber}
 use Rattle.dispatch.specs.Steps.{tickIn}
@@ -23,6 +21,7 @@ use Rattle.offer.specs.declared.Offered.{Offered}
 use Rattle.offer.specs.declared.Offered.the-variants.{Refused, Ticket}
 use Rattle.offer.specs.declared.OfferMade.{OfferMade}
 use Rattle.block.specs.Layout.{imageOf, writtenOn}
+use Rattle.block.specs.Places.{block-bytes}
 use Rattle.block.specs.Tests.{decodedOf}
 use Rattle.block.specs.declared.Decoded.{Decoded}
 use Rattle.board.specs.declared.OfferAnswer.{OfferAnswer}
@@ -42,14 +41,14 @@ giving a b = record { answer = a; block = b }
 
 -- planning: 11 for the length only, then the file
 
--- an accepted file leaves the image of its fresh state
-abbrev pub planOf : Reading → List ℕ → Out PlanAnswer
-planOf (read-as ps) b = giving donePlan (imageOf (rowsFor ps) (freshIn (rowsFor ps .n)))
-planOf (unread why from size) b = giving (refusedPlan (number why) from size) b
+-- an accepted file leaves the image of its fresh state; row: the one that a refusal is about
+abbrev pub plannedOn : List ℕ → ℕ → Reading → Out PlanAnswer
+plannedOn b row (read-as ps) = giving donePlan (imageOf (rowsFor ps) (freshIn (rowsFor ps .table .n)))
+plannedOn b row (unread why from size) = giving (refusedPlan (number why) row from size) b
 
 -- the whole of planning
 unfoldable pub planBlock : List ℕ → List ℕ → Out PlanAnswer
-planBlock file b = cond (eqb (length b) 512) (planOf (read file) b) (giving (refusedPlan (number not-image) 0 0) b)
+planBlock b file = cond (eqb (length b) block-bytes) (plannedOn b (scanRow (scan 16 0 file)) (read file)) (giving (refusedPlan (number not-image) 0 0 0) b)
 
 -- the tick: 20, 11, then 12, 13, 14
 
@@ -94,17 +93,13 @@ offerBlock b B d = offerDecoded (decodedOf b) b B d
 
 -- the table read back: 11, then 5 to 10, then 19
 
--- the rows of the dispatcher as a table in memory
-abbrev pub tableIn : Rows → Table
-tableIn rows = record { n = rows .n; c = rows .c; d = rows .d; t = rows .t; rank = rows .rank }
-
 -- a table that is written leaves its file at the front of the output, a refused one the output as it was
 abbrev pub writingOn : Writing → List ℕ → Out TableAnswer
-writingOn w out = giving (writtenTable (writtenOf w)) (heldOf out w)
+writingOn w out = giving (writtenTable (writtenOf w)) (outputAfter out w)
 
 -- a block that is no image is refused 11
 abbrev pub tableDecoded : Decoded → List ℕ → Out TableAnswer
-tableDecoded x out = cond (x .ok) (writingOn (write (rowsOf (tableIn (x .rows))) out) out) (giving (refusedTable (number not-image)) out)
+tableDecoded x out = cond (x .ok) (writingOn (write (rowsOf (x .rows .table)) out) out) (giving (refusedTable (number not-image)) out)
 
 -- the whole of it
 unfoldable pub tableBlock : List ℕ → List ℕ → Out TableAnswer

@@ -1,10 +1,8 @@
 -- The answers to C in numbers: every case of every enum. Rows are counted from 1 here; 0 stands where a number says nothing. Assumes nothing.
-use Prim.Native.Nat.{ℕ, _/_, _%_}
-use mathlib.Core.Bool.{cond}
-use lib.Dec.{ltb}
+use Prim.Native.Nat.{ℕ}
 use Rattle.table.specs.declared.Written.{Written}
 use Rattle.table.specs.declared.Written.the-variants.{Length, Refused}
-use Rattle.answer.specs.Numbers.{closingNumbers, rowNumber, runnerNumbers}
+use Rattle.answer.specs.Numbers.{closingNumbers, runnerNumbers}
 use Rattle.answer.specs.declared.Answer.{Answer}
 use Rattle.answer.specs.declared.ClosingNumbers.{ClosingNumbers}
 use Rattle.answer.specs.declared.RunnerNumbers.{RunnerNumbers}
@@ -63,13 +61,9 @@ refusedOffer refusal = record { ticket = 0; refusal = refusal }
 
 -- planning's answer
 
--- the row of 6 to 10, whose ten bytes are shown
-abbrev pub rowShown : ℕ → ℕ → ℕ
-rowShown refusal from = cond (ltb refusal 6) 0 (cond (ltb 10 refusal) 0 (rowNumber (from / 10 % 16)))
-
--- a refused table: the number, the part that is shown, the row
-abbrev pub refusedPlan : ℕ → ℕ → ℕ → PlanAnswer
-refusedPlan refusal from size = record { from = from; size = size; refusal = refusal; row = rowShown refusal from }
+-- a refused table: the number, the row that it is about (0: none), the part that is shown
+abbrev pub refusedPlan : (refusal row from size : ℕ) → PlanAnswer
+refusedPlan refusal row from size = record { from = from; size = size; refusal = refusal; row = row }
 
 -- an accepted table
 abbrev pub donePlan : PlanAnswer

@@ -10,7 +10,7 @@ use lib.Dec.{eqb}
 use lib.ListN.{drop, getD, getElem?, length}
 use Rattle.rules.specs.Bound.{PlannedRow, plan, unplanned}
 use Rattle.rules.specs.Calls.{AllShort, Call, Reply, Reported, Short, acceptances, answered, count, doneFlag, namesRow, namesTicket, offer-call, refused, releases, replies, returns, tick-call, ticks, took}
-use Rattle.rules.specs.File.{read, read-as, scan, whole}
+use Rattle.rules.specs.File.{read, read-as, scan, unread, whole}
 use Rattle.rules.specs.Refusals.{B-zero, C-over-D, C-zero, D-over-T, Refusal, Refused, after-end, atRow, bad-rank, cut, d-under-B, none-ran, not-image, not-ready, number, passes-D, queue-full, refusal, room-short, row-17, small-output, unknown-flag, unknown-row, unknown-tag, wrong-length}
 use Rattle.rules.specs.Rows.{Row, deadline}
 use Rattle.rules.specs.Image.{isImage}
@@ -18,6 +18,7 @@ use Rattle.rules.specs.Station.{Station, freshStation}
 use Rattle.rules.specs.Tables.{Bytes}
 use Rattle.rules.specs.Tick.{Answer, Closing, How, Runner, bit, closedAs, done, firm, firm-job, hard, hard-job, idle, lower, nothing, soft, spent, upper}
 use Rattle.answer.specs.Numbers.{rowNumber}
+use Rattle.block.specs.Places.{block-bytes}
 use Rattle.block.specs.Tests.{decodedOf}
 use Rattle.board.specs.declared.OfferAnswer.{OfferAnswer}
 use Rattle.board.specs.declared.TickAnswer.{TickAnswer}
@@ -37,26 +38,26 @@ abbrev pub named : ℕ → Refusal
 named n = getD refusals (n - 1) cut
 
 -- who runs
-abbrev pub runnerIn : TickAnswer → Runner
-runnerIn a =
+abbrev pub runnerRead : TickAnswer → Runner
+runnerRead a =
     cond (eqb (a .runner) 1) (hard (a .«runner_row» - 1) (cond (eqb (a .band) 1) upper lower))
     (cond (eqb (a .runner) 2) (firm (a .ticket))
     (cond (eqb (a .runner) 3) soft idle))
 
 -- how it closed
-abbrev pub howIn : TickAnswer → How
-howIn a = cond (eqb (a .closing) 1) done spent
+abbrev pub howRead : TickAnswer → How
+howRead a = cond (eqb (a .closing) 1) done spent
 
 -- what closed
-abbrev pub closingIn : TickAnswer → Closing
-closingIn a =
-    cond (eqb (a .closed) 1) (hard-job (a .«closed_row» - 1) (howIn a))
-    (cond (eqb (a .closed) 2) (firm-job (a .«closed_ticket») (howIn a)) nothing)
+abbrev pub closingRead : TickAnswer → Closing
+closingRead a =
+    cond (eqb (a .closed) 1) (hard-job (a .«closed_row» - 1) (howRead a))
+    (cond (eqb (a .closed) 2) (firm-job (a .«closed_ticket») (howRead a)) nothing)
 
 -- of a tick
 abbrev pub tickReply : TickAnswer → Reply
 tickReply a =
-    cond (eqb (a .refusal) 0) (answered (record { at = a .clock; runner = runnerIn a; closing = closingIn a }))
+    cond (eqb (a .refusal) 0) (answered (record { at = a .clock; runner = runnerRead a; closing = closingRead a }))
     (refused (atRow (named (a .refusal)) (a .row - 1)))
 
 -- of an offer
@@ -87,7 +88,7 @@ blockAfter b (c ∷ cs) = blockAfter (blockOn b c) cs
 
 -- DEMAND 1, of any bytes at all: where the answer is a refusal, every byte of the block, or of the output, is as before the call
 pub record Untouched : Type 0 where
-  pub plan-refused : (file b : List ℕ) → (planBlock file b .answer .refusal ≡ 0 → ⊥) → planBlock file b .block ≡ b
+  pub plan-refused : (b file : List ℕ) → (planBlock b file .answer .refusal ≡ 0 → ⊥) → planBlock b file .block ≡ b
   pub tick-refused : (b : List ℕ) (set flags : ℕ) → (tickBlock b set flags .answer .refusal ≡ 0 → ⊥) → tickBlock b set flags .block ≡ b
   pub offer-refused : (b : List ℕ) (B d : ℕ) → (offerBlock b B d .answer .refusal ≡ 0 → ⊥) → offerBlock b B d .block ≡ b
   pub table-refused : (b out : List ℕ) → (tableBlock b out .answer .refusal ≡ 0 → ⊥) → tableBlock b out .block ≡ out
@@ -105,10 +106,11 @@ TableNumber refusal = (refusal ≡ 0) ⊎ ((refusal ≡ 10) ⊎ ((refusal ≡ 11
 abbrev pub TableNumbers : Type 0
 TableNumbers = (b out : List ℕ) → Bytes b → TableNumber (tableBlock b out .answer .refusal)
 
--- PLANNING, where 6 to 10 refuse a row: its number, and its ten bytes
+-- PLANNING, where 6 to 10 refuse a row: its number, and the part of the file that the rules show
 abbrev pub RowNamed : Type 0
-RowNamed = (file b : List ℕ) → Bytes file → length b ≡ 512 → (rs : List Row) → scan 16 0 file ≡ whole rs → (x : Refused) → plan rs ≡ unplanned x
-    → planBlock file b .answer ≡ record { from = 10 * x .row; size = 10; refusal = number (x .why); row = rowNumber (x .row) }
+RowNamed = (b file : List ℕ) → length b ≡ block-bytes → (rs : List Row) → scan 16 0 file ≡ whole rs → (x : Refused) → plan rs ≡ unplanned x
+    → (from size : ℕ) → read file ≡ unread (x .why) from size
+    → planBlock b file .answer ≡ record { from = from; size = size; refusal = number (x .why); row = rowNumber (x .row) }
 
 -- DEMAND 3, a hard job. A tick released the row r at position k and answered x; b is the block after it. Whatever calls follow:
 pub record HardOnBlock (k : ℕ) (r : Row) (b : List ℕ) (x : Answer) : Type 0 where
@@ -158,5 +160,5 @@ pub record OnBlocks (file : List ℕ) (ps : List PlannedRow) (b : List ℕ) : Ty
 
 -- ALL OF IT: where planning answers 0, the file is a table's, and its block keeps the promises
 abbrev pub Promises : Type 0
-Promises = (file b : List ℕ) → Bytes file → planBlock file b .answer .refusal ≡ 0
-    → (ps : List PlannedRow) × (read file ≡ read-as ps) × OnBlocks file ps (planBlock file b .block)
+Promises = (b file : List ℕ) → Bytes file → planBlock b file .answer .refusal ≡ 0
+    → (ps : List PlannedRow) × (read file ≡ read-as ps) × OnBlocks file ps (planBlock b file .block)

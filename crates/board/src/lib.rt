@@ -2,13 +2,13 @@
 ghost use mathlib.Core.Path.{_≡_};
 ghost use Rattle.rules.specs.Calls.{doneFlag, softFlag};
 ghost use Rattle.answer.specs.Below.{AnswerBelow};
-ghost use Rattle.board.specs.Numbers.{refusedPlan, refusedTick, rowShown, steppedTick};
-ghost use Rattle.board.specs.Blocks.{planBlock, tickBlock, offerBlock, tableIn, tableBlock};
+ghost use Rattle.board.specs.Numbers.{refusedPlan, refusedTick, steppedTick};
+ghost use Rattle.board.specs.Blocks.{planBlock, tickBlock, offerBlock, tableBlock};
 use answer::Answer;
 use dispatch::TickVerdict;
 use offer::Offered;
-use state::Rows;
-use table::Table;
+use table::FileRefusal;
+use table::FileVerdict;
 use table::Written;
 
 // refusal: 0, or document 01's number. row: of 6 to 10, else 0. from, size: the shown part of the table file, of 1 to 10, else 0.
@@ -54,27 +54,27 @@ pub struct TableAnswer {
 
 // Plans the table of a file into a fresh block: 11 for its length only, then 1 to 10. A refusal writes nothing.
 #[no_mangle]
-pub extern "C" fn heechstjer_plan(table: &[u8], block: &mut [u8]) -> PlanAnswer
-    ensures { λ r. ⌜ r ≡ planBlock (now (table .entry)) (now (block .entry)) .answer ⌝ }
-    ensures { λ _. ⌜ now (block .exit) ≡ planBlock (now (table .entry)) (now (block .entry)) .block ⌝ }
+pub extern "C" fn heechstjer_plan(block: &mut [u8], table: &[u8]) -> PlanAnswer
+    ensures { λ r. ⌜ r ≡ planBlock (now (block .entry)) (now (table .entry)) .answer ⌝ }
+    ensures { λ _. ⌜ now (block .exit) ≡ planBlock (now (block .entry)) (now (table .entry)) .block ⌝ }
 {
-    if block.len() != 512 {
-        return refused_plan(11, 0, 0);
+    if block.len() != block::BLOCK_BYTES {
+        return refused_plan(FileRefusal {
+            number: 11,
+            row: 0,
+            from: 0,
+            size: 0,
+        });
     }
     let reading = table::read_table(table);
     let verdict = reading.verdict;
     match verdict {
-        table::Verdict::Refused(refusal) => refused_plan(
-            refusal.number,
-            refusal.from,
-            refusal.size,
-        ),
-        table::Verdict::Accepted => {
+        FileVerdict::Refused(refusal) => refused_plan(refusal),
+        FileVerdict::Accepted => {
             let tb = reading.table;
             let plan = reading.plan;
-            let rows = state::planned_rows(tb, plan);
-            let state = state::fresh_state(rows.n);
-            block::encode(rows, state, block);
+            let state = state::fresh_state(tb.n);
+            block::encode(state::planned_rows(tb, plan), state, block);
             PlanAnswer {
                 from: 0,
                 size: 0,
@@ -153,7 +153,8 @@ pub extern "C" fn heechstjer_table(block: &[u8], out: &mut [u8]) -> TableAnswer
     let decoded = block::decode(block);
     if decoded.ok {
         let rows = decoded.rows;
-        match table::write_table(table_of(rows), out) {
+        let tb = rows.table;
+        match table::write_table(tb, out) {
             Written::Length(size) => TableAnswer { size, refusal: 0 },
             Written::Refused(refusal) => TableAnswer { size: 0, refusal },
         }
@@ -165,28 +166,15 @@ pub extern "C" fn heechstjer_table(block: &[u8], out: &mut [u8]) -> TableAnswer
     }
 }
 
-// The row of a refused table: 6 to 10 show its ten bytes.
-fn refused_plan(refusal: u8, from: usize, size: usize) -> PlanAnswer
-    ensures { λ r. ⌜ r ≡ refusedPlan refusal from size ⌝ }
+fn refused_plan(refusal: FileRefusal) -> PlanAnswer
+    ensures { λ r. ⌜ r ≡ refusedPlan (refusal .number) (refusal .row) (refusal .from) (refusal .size) ⌝ }
 {
     PlanAnswer {
-        from,
-        size,
-        refusal,
-        row: row_shown(refusal, from),
+        from: refusal.from,
+        size: refusal.size,
+        refusal: refusal.number,
+        row: refusal.row,
     }
-}
-
-fn row_shown(refusal: u8, from: usize) -> u8
-    ensures { λ r. ⌜ r ≡ rowShown refusal from ⌝ }
-{
-    if refusal < 6 {
-        return 0;
-    }
-    if 10 < refusal {
-        return 0;
-    }
-    answer::row_number(from / 10 % 16)
 }
 
 fn done_flag(flags: u8) -> bool
@@ -239,22 +227,5 @@ fn stepped_tick(answer: Answer) -> TickAnswer
         closed: closes.kind,
         closed_row: closes.row,
         closing: closes.how,
-    }
-}
-
-// The dispatcher's rows without their promotion times.
-fn table_of(rows: Rows) -> Table
-    ensures { λ r. ⌜ r ≡ tableIn rows ⌝ }
-{
-    let c = rows.c;
-    let d = rows.d;
-    let t = rows.t;
-    let rank = rows.rank;
-    Table {
-        n: rows.n,
-        c,
-        d,
-        t,
-        rank,
     }
 }

@@ -1,8 +1,8 @@
 // Reads a table from standard input and prints a line a row: the row, C, D, T, R, U and the rounds; or why it is refused.
-use table::Plan;
 use table::FileRefusal;
-use table::Table;
 use table::FileVerdict;
+use table::Plan;
+use table::Table;
 use wire::Place;
 ghost use Prim.Native.Nat.{_<_, _≤_};
 

@@ -1,7 +1,5 @@
 -- `board::heechstjer_plan` meets its contract on each way through it. Assumes nothing.
-use mathlib.Core.Path.{ap, ap₂, _∙_}
-use Rattle.state.specs.declared.Rows.{Rows}
-use Rattle.state.specs.Fresh.{freshIn}
+use mathlib.Core.Path.{ap₂, _∙_}
 use Rattle.block.specs.Layout.{imageOf}
 use Rattle.board.proofs.Ways.{encoded-whole, halves, planned-way, refused-way, short-way}
 use borrow.Author.Needs.{needs}
@@ -14,7 +12,7 @@ refused-plan-requires c κs = search needs
 returns : tie.Need-returns
 returns c =
     let a = c .before .before .before .before .args in
-    let w = halves (short-way (a .table .now) (a .block .now) (c .before .if1 .taken)) in
+    let w = halves (short-way (a .block .now) (a .table .now) (c .before .if1 .taken)) in
     (c .refused-plan .ensures ∙ w .0, w .1)
 
 read-table-requires : tie.Need-read-table-requires
@@ -29,11 +27,11 @@ refused-plan-requires-2 c κs = search needs
 enum-told : tie.Need-enum-told
 enum-told c = search needs
 
-planned-rows-requires : tie.Need-planned-rows-requires
-planned-rows-requires c κs = search needs
-
 fresh-state-requires : tie.Need-fresh-state-requires
 fresh-state-requires c κs = search needs
+
+planned-rows-requires : tie.Need-planned-rows-requires
+planned-rows-requires c κs = search needs
 
 encode-requires : tie.Need-encode-requires
 encode-requires c κs = search needs
@@ -42,7 +40,7 @@ returns-2 : tie.Need-returns-2
 returns-2 c =
     let read = c .before .before .before .before in
     let a = read .before .before .before .before .args in
-    let w = halves (refused-way (a .table .now) (a .block .now) (read .before .if1 .left) (read .read-table .result) (read .read-table .ensures) _ (c .before .before .verdict .given .1)) in
+    let w = halves (refused-way (a .block .now) (a .table .now) (read .before .if1 .left) (read .read-table .result) (read .read-table .ensures) _ (c .before .before .verdict .given .1)) in
     (c .refused-plan2 .ensures ∙ w .0, w .1)
 
 same-length : tie.Need-same-length
@@ -52,12 +50,12 @@ returns-3 : tie.Need-returns-3
 returns-3 c =
     let read = c .before .before .before .before .before .before .before .before .before .before in
     let a = read .before .before .before .before .args in
-    let w = halves (planned-way (a .table .now) (a .block .now) (read .before .if1 .left) (read .read-table .result) (read .read-table .ensures) (c .before .before .before .before .before .before .before .before .enum-told .given .1)) in
-    let rows = c .before .before .before .before .before .planned-rows in
-    let state = c .before .before .before .before .fresh-state in (
+    let w = halves (planned-way (a .block .now) (a .table .now) (read .before .if1 .left) (read .read-table .result) (read .read-table .ensures) (c .before .before .before .before .before .before .before .before .enum-told .given .1)) in
+    let rows = c .before .before .before .before .planned-rows in
+    let state = c .before .before .before .before .before .fresh-state in (
       w .0,
       c .before .before .encode .ensures ∙ encoded-whole (a .block .now) (rows .result) (state .result) (read .before .if1 .left)
-          ∙ ap₂ imageOf (rows .ensures) (state .ensures ∙ ap (λ (x : Rows). freshIn (x .n)) (rows .ensures))
+          ∙ ap₂ imageOf (rows .ensures) (state .ensures)
           ∙ w .1,
     )
 
@@ -71,8 +69,8 @@ heechstjer-plan-spec =
     enum-known-verdict
     refused-plan-requires-2
     enum-told
-    planned-rows-requires
     fresh-state-requires
+    planned-rows-requires
     encode-requires
     returns-2
     same-length

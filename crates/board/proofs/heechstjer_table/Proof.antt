@@ -13,18 +13,14 @@ way : (c : tie.After-write-table) (w : Written) → c .write-table .result ≡ w
     → let a = c .before .before .before .before .before .before .before .before .args in
     (writtenTable w ≡ tableBlock (a .block .now) (a .out .now) .answer) × (c .write-table .last .1 .0 ≡ tableBlock (a .block .now) (a .out .now) .block)
 way c w e =
-    let table = c .before .before .table-of in
     let image = c .before .before .before .before in
     let decode = image .before .decode in
     let a = image .before .before .before .before .args in
-    let h = halves (written-way (a .block .now) (a .out .now) (decode .result) (decode .ensures) (image .if1 .taken) (table .result) (table .ensures) w (sym (c .write-table .ensures .0) ∙ e)) in
+    let h = halves (written-way (a .block .now) (a .out .now) (decode .result) (decode .ensures) (image .if1 .taken) w (sym (c .write-table .ensures .0) ∙ e)) in
     (h .0, c .write-table .ensures .1 ∙ h .1)
 
 decode-requires : tie.Need-decode-requires
 decode-requires c κs = search needs
-
-table-of-requires : tie.Need-table-of-requires
-table-of-requires c κs = search needs
 
 write-table-requires : tie.Need-write-table-requires
 write-table-requires c κs = search needs
@@ -57,7 +53,6 @@ heechstjer-table-spec =
     tie.close
     (tie.spec
     decode-requires
-    table-of-requires
     write-table-requires
     enum-known-size
     enum-known-refusal
