@@ -1,7 +1,7 @@
 # The C side. What is built lands under target/.
 #
 #   make lib                  prove the library and write it as an archive
-#   make kernel               the example, target/c/kernel
+#   make example              build the example and run it
 #   make needs                what the library asks of a board: symbols, registers, stack
 #   make test-c               the C tests and the example: plain, as C++, under sanitizers, under valgrind; and make needs
 #   make install PREFIX=DIR   library, header and pkg-config file under DIR (default /usr/local)
@@ -12,14 +12,24 @@ PREFIX = /usr/local
 LIB = target/staticlib/libboard.a
 OUT = target/c
 
-CC = gcc
-CXX = g++
-NM = nm
-OBJDUMP = objdump
+# On another machine than x86-64 there is a cross compiler, and an emulator in front of what is run. Under that the address
+# sanitizer takes more memory than machines have, and valgrind has nothing to run.
+CROSS := $(shell . tests/machine.sh && echo "$$CROSS")
+EMULATOR := $(shell . tests/machine.sh && echo "$$EMULATOR")
+ifdef EMULATOR
+SANITIZERS = undefined
+else
+SANITIZERS = address,undefined
+endif
+
+CC = $(CROSS)gcc
+CXX = $(CROSS)g++
+NM = $(CROSS)nm
+OBJDUMP = $(CROSS)objdump
 WARNINGS = -Wall -Wextra -Werror -pedantic -Wconversion -Wsign-conversion -Wshadow -Wcast-qual -Wundef
 CFLAGS = -std=c99 -O2 -g $(WARNINGS) -Wstrict-prototypes
 CXXFLAGS = -std=c++11 -O2 -g $(WARNINGS) -Wold-style-cast
-SANITIZE = -O1 -fsanitize=address,undefined -fno-sanitize-recover=all
+SANITIZE = -O1 -fsanitize=$(SANITIZERS) -fno-sanitize-recover=all
 VALGRIND = valgrind --quiet --error-exitcode=1 --leak-check=full
 
 HEADER = include/heechstjer.h
@@ -27,21 +37,23 @@ PROGRAMS = answers answers-sanitized kernel kernel-sanitized kernel-cpp page
 
 SHELL = bash
 .SHELLFLAGS = -euo pipefail -c
-.PHONY: lib kernel needs test-c install test-install clean
+.PHONY: lib example needs test-c install test-install clean
 .DELETE_ON_ERROR:
 
 # What the goals run, looked for before anything is made.
 TOOLS_lib = rt
-TOOLS_kernel = rt $(CC)
+TOOLS_example = rt $(CC) $(firstword $(EMULATOR))
 TOOLS_needs = rt $(NM) $(OBJDUMP)
-TOOLS_test-c = rt $(CC) $(CXX) valgrind $(NM) $(OBJDUMP)
-TOOLS_test-install = rt $(CC) pkg-config
+TOOLS_test-c = rt $(CC) $(CXX) $(NM) $(OBJDUMP) $(or $(firstword $(EMULATOR)),valgrind)
+TOOLS_test-install = rt $(CC) pkg-config $(firstword $(EMULATOR))
 ifneq ($(shell tests/tools.sh $(foreach goal,$(or $(MAKECMDGOALS),lib),$(TOOLS_$(goal))) || echo missing),)
 $(error tools are missing)
 endif
 
 lib: $(LIB)
-kernel: $(OUT)/kernel
+
+example: $(OUT)/kernel
+	@$(EMULATOR) $(OUT)/kernel
 
 target/staticlib/libboard.a: crates.txt $(shell find crates -type f)
 	rt staticlib board
@@ -78,14 +90,18 @@ needs: $(LIB)
 test-c: $(PROGRAMS:%=$(OUT)/%)
 	tests/c/rows.sh "$(CC)" "$(CXX)"
 	tests/needs.sh $(LIB) $(NM) $(OBJDUMP) | tests/c/said.sh
-	$(OUT)/answers
-	$(OUT)/answers-sanitized | grep -v '^ok '
+	$(EMULATOR) $(OUT)/answers
+	$(EMULATOR) $(OUT)/answers-sanitized | grep -v '^ok '
+	$(EMULATOR) $(OUT)/kernel | diff tests/c/kernel.want -
+	$(EMULATOR) $(OUT)/kernel-cpp | diff tests/c/kernel.want -
+	$(EMULATOR) $(OUT)/kernel-sanitized | diff tests/c/kernel.want -
+	test "$$($(EMULATOR) $(OUT)/page)" = "F0 arrived"
+ifdef EMULATOR
+	@echo "left out under the emulator: the address sanitizer and valgrind"
+else
 	$(VALGRIND) $(OUT)/answers | grep -v '^ok '
-	$(OUT)/kernel | diff tests/c/kernel.want -
-	$(OUT)/kernel-cpp | diff tests/c/kernel.want -
-	$(OUT)/kernel-sanitized | diff tests/c/kernel.want -
 	$(VALGRIND) $(OUT)/kernel | diff tests/c/kernel.want -
-	test "$$($(OUT)/page)" = "F0 arrived"
+endif
 
 install: $(LIB)
 	install -d $(DESTDIR)$(PREFIX)/include $(DESTDIR)$(PREFIX)/lib/pkgconfig
@@ -98,7 +114,7 @@ test-install: $(LIB)
 	$(MAKE) --no-print-directory install PREFIX="$$prefix" DESTDIR=; \
 	export PKG_CONFIG_PATH="$$prefix/lib/pkgconfig"; \
 	$(CC) $(CFLAGS) examples/kernel.c $$(pkg-config --cflags --libs heechstjer) -o "$$prefix/kernel"; \
-	"$$prefix/kernel" | diff tests/c/kernel.want -; \
+	$(EMULATOR) "$$prefix/kernel" | diff tests/c/kernel.want -; \
 	version=$$(sed -n 's/^#define HEECHSTJER_VERSION "\(.*\)"$$/\1/p' "$$prefix/include/heechstjer.h"); \
 	test "$$(pkg-config --modversion heechstjer)" = "$$version" || { echo "heechstjer.pc has not the header's version"; exit 1; }
 

@@ -3,6 +3,7 @@
 # A vector of plan: stdin, want. A vector of run: table.bin and events.bin (either may be missing), want.
 set -euo pipefail
 root=$(cd "$(dirname "$0")/.." && pwd)
+. "$root/tests/machine.sh"
 work=$(mktemp -d)
 trap 'rm -rf "$work"' EXIT
 count=0
@@ -18,14 +19,14 @@ compare() {
 }
 
 for vector in "$root"/tests/vectors/plan/*/; do
-    "$root/target/bin/plan" < "$vector/stdin" > "$work/got"
+    $EMULATOR "$root/target/bin/plan" < "$vector/stdin" > "$work/got"
     compare "${vector%/}"
 done
 
 for vector in "$root"/tests/vectors/run/*/; do
     mkdir "$work/files"
     find "$vector" -name '*.bin' -exec cp {} "$work/files" \;
-    (cd "$work/files" && "$root/target/bin/run") > "$work/got"
+    (cd "$work/files" && $EMULATOR "$root/target/bin/run") > "$work/got"
     rm -r "$work/files"
     compare "${vector%/}"
 done
