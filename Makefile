@@ -6,6 +6,7 @@
 #   make test-c               the C tests and the example: plain, as C++, under sanitizers, under valgrind; and make needs
 #   make install PREFIX=DIR   library, header and pkg-config file under DIR (default /usr/local)
 #   make test-install         install to a temporary place, and build the example through pkg-config
+#   make shim                 what tests/compare.sh asks, target/c/shim
 #   make clean                remove target/c
 
 PREFIX = /usr/local
@@ -37,12 +38,13 @@ PROGRAMS = answers answers-sanitized kernel kernel-sanitized kernel-cpp page
 
 SHELL = bash
 .SHELLFLAGS = -euo pipefail -c
-.PHONY: lib example needs test-c install test-install clean
+.PHONY: lib example needs shim test-c install test-install clean
 .DELETE_ON_ERROR:
 
 # What the goals run, looked for before anything is made.
 TOOLS_lib = rt
 TOOLS_example = rt $(CC) $(firstword $(EMULATOR))
+TOOLS_shim = rt $(CC)
 TOOLS_needs = rt $(NM) $(OBJDUMP)
 TOOLS_test-c = rt $(CC) $(CXX) $(NM) $(OBJDUMP) $(or $(firstword $(EMULATOR)),valgrind)
 TOOLS_test-install = rt $(CC) pkg-config $(firstword $(EMULATOR))
@@ -51,6 +53,7 @@ $(error tools are missing)
 endif
 
 lib: $(LIB)
+shim: $(OUT)/shim
 
 example: $(OUT)/kernel
 	@$(EMULATOR) $(OUT)/kernel
@@ -66,6 +69,9 @@ $(OUT)/%: examples/%.c $(HEADER) $(LIB) | $(OUT)
 	$(CC) $(CFLAGS) -Iinclude $< $(LIB) -o $@
 
 $(OUT)/%: tests/c/%.c $(HEADER) $(LIB) | $(OUT)
+	$(CC) $(CFLAGS) -Iinclude $< $(LIB) -o $@
+
+$(OUT)/%: tests/compare/%.c $(HEADER) $(LIB) | $(OUT)
 	$(CC) $(CFLAGS) -Iinclude $< $(LIB) -o $@
 
 $(OUT)/%-sanitized: examples/%.c $(HEADER) $(LIB) | $(OUT)

@@ -3,6 +3,7 @@
 # comparison with the library notices it. Run tests/compare.sh before it.
 set -euo pipefail
 root=$(cd "$(dirname "$0")/.." && pwd)
+. "$root/tests/machine.sh"
 tree=$root/target/slips/tree
 export CARGO_TARGET_DIR=$root/target/slips/cargo
 count=0
@@ -36,8 +37,7 @@ slip() {
 
 rm -rf "$tree"
 mkdir -p "$tree/target"
-ln -s "$root/include" "$tree/include"
-ln -s "$root/target/staticlib" "$tree/target/staticlib"
+ln -s "$root/target/c" "$tree/target/c"
 ln -s "$root/target/bin" "$tree/target/bin"
 
 # Document 01's "Slips seen in such schedulers".

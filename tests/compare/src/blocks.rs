@@ -3,7 +3,8 @@
 
 use crate::caller::Caller;
 use crate::counts::Counts;
-use crate::pair::{file_bytes, table_back, Lent, Pair};
+use crate::library::Asked;
+use crate::pair::{ask_table_back, file_bytes, on_wrong_length, table_back, Pair};
 use crate::rollover::made_late;
 use crate::tables::{accepted, Kind};
 use crate::{expected, library};
@@ -11,6 +12,7 @@ use reference::block::{decode, encode, BLOCK};
 use reference::random::Random;
 use reference::station::Station;
 use reference::table::MOST_ROWS;
+use std::fmt::Debug;
 
 pub fn case(seed: u64) -> Counts {
     let mut random = Random::new(seed);
@@ -49,19 +51,31 @@ struct Judge {
 }
 
 impl Judge {
-    /// A tick, an offer and the table of a block; then, now and then, some calls
-    /// more.
+    /// Two ticks, an offer and the table of a block, each on a copy and all asked of
+    /// the library in one go; then, now and then, some calls more.
     fn block(&mut self, block: &[u8; BLOCK]) {
         let station = decode(block);
         self.counts.blocks += 1;
         self.counts.images += u64::from(station.is_some());
         let released = self.random.below(1 << 16) as u16 & self.random.below(1 << 16) as u16;
         let flags = self.random.below(5) as u8;
-        self.tick(block, released, flags);
-        self.tick(block, 0, 0);
         let deadline = self.random.between(0, 40) as u16;
-        self.offer(block, 1, deadline);
-        self.table(block);
+        let first = library::ask_tick(block, released, flags);
+        let second = library::ask_tick(block, 0, 0);
+        let offer = library::ask_offer(block, 1, deadline);
+        let table = ask_table_back(block, file_bytes(MOST_ROWS));
+
+        let mut after = station.clone();
+        let want = expected::tick(after.as_mut(), released, flags);
+        self.counts.call(compare(first, want, block, after).refusal);
+        let mut after = station.clone();
+        let want = expected::tick(after.as_mut(), 0, 0);
+        self.counts.call(compare(second, want, block, after).refusal);
+        let mut after = station.clone();
+        let want = expected::offer(after.as_mut(), 1, deadline);
+        self.counts.call(compare(offer, want, block, after).refusal);
+        self.counts.call(table_back(table, block, station.as_ref()));
+
         if let Some(station) = station.filter(|_| self.random.once_in(20)) {
             let mut pair = Pair::of_station(station);
             let mut caller = Caller::new(Random::new(self.random.below(1 << 30)));
@@ -70,35 +84,6 @@ impl Judge {
             }
             self.counts += pair.counts;
         }
-    }
-
-    fn tick(&mut self, block: &[u8; BLOCK], released: u16, flags: u8) {
-        let mut lent = Lent::new(block);
-        let mut station = decode(block);
-        let answer = library::tick(lent.block(), released, flags);
-        let want = expected::tick(station.as_mut(), released, flags);
-        assert_eq!(answer, want, "tick on {block:02x?}");
-        compare_left(block, station, lent);
-        self.counts.call(answer.refusal);
-    }
-
-    fn offer(&mut self, block: &[u8; BLOCK], budget: u16, deadline: u16) {
-        let mut lent = Lent::new(block);
-        let mut station = decode(block);
-        let answer = library::offer(lent.block(), budget, deadline);
-        let want = expected::offer(station.as_mut(), budget, deadline);
-        assert_eq!(answer, want, "offer on {block:02x?}");
-        compare_left(block, station, lent);
-        self.counts.call(answer.refusal);
-    }
-
-    /// The table of a block, which only reads it.
-    fn table(&mut self, block: &[u8; BLOCK]) {
-        let mut lent = Lent::new(block);
-        let station = decode(block);
-        let refusal = table_back(lent.block(), station.as_ref(), file_bytes(MOST_ROWS));
-        assert!(lent == Lent::new(block), "the block after reading back {block:02x?}");
-        self.counts.call(refusal);
     }
 
     /// The image with a random damage.
@@ -137,27 +122,24 @@ impl Judge {
     /// Blocks of every length up to one and a half, cut or drawn out.
     fn lengths(&mut self, image: &[u8; BLOCK]) {
         for length in (0..BLOCK + BLOCK / 2).filter(|&length| length != BLOCK) {
-            let mut bytes = image.to_vec();
-            bytes.resize(length, 0);
-            let before = bytes.clone();
-            let tick = library::tick(&mut bytes, 0, 0);
-            assert_eq!(tick, expected::tick(None, 0, 0), "a tick on {length} bytes");
-            let offer = library::offer(&mut bytes, 1, 9);
-            assert_eq!(offer, expected::offer(None, 1, 9), "an offer on {length} bytes");
-            let plan = library::plan(&mut bytes, &[0x0f, 0, 0]);
-            assert_eq!(plan, expected::plan(&[0x0f, 0, 0], length).0, "planning on {length} bytes");
-            let table = table_back(&bytes, None, file_bytes(MOST_ROWS));
-            assert!(bytes == before, "{length} bytes were written to");
-            for refusal in [tick.refusal, offer.refusal, plan.refusal, table] {
+            for refusal in on_wrong_length(image, length, 0) {
                 self.counts.call(refusal);
             }
         }
     }
 }
 
-/// What a call left is the image of the station after it, or, where there is none,
-/// the block that it was given.
-fn compare_left(block: &[u8; BLOCK], station: Option<Station>, lent: Lent) {
-    let after = station.map_or(*block, |station| encode(&station));
-    assert!(lent == Lent::new(&after), "after a call on {block:02x?}");
+/// The answer of a call on a copy of the block, which is the one wanted. It left the
+/// image of the station after it, or, where there is none, the block as it was given.
+fn compare<Answer: Debug + PartialEq>(
+    asked: Asked<Answer>,
+    want: Answer,
+    block: &[u8; BLOCK],
+    after: Option<Station>,
+) -> Answer {
+    let answered = asked.answered();
+    assert_eq!(answered.answer, want, "a call on {block:02x?}");
+    let left = after.map_or(*block, |station| encode(&station));
+    assert!(answered.block == left, "after a call on {block:02x?}");
+    answered.answer
 }

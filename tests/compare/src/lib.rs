@@ -8,6 +8,7 @@ pub mod caller;
 pub mod counts;
 pub mod expected;
 pub mod library;
+pub mod machine;
 pub mod pair;
 pub mod tables;
 pub mod watch;

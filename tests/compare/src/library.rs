@@ -1,4 +1,10 @@
-//! The library's four functions, as the C header gives them.
+//! The library's four functions, as the C header gives them. They are asked of
+//! `shim.c`, which runs as a process of its own beside each thread.
+
+use crate::machine;
+use std::cell::RefCell;
+use std::io::{BufReader, Read, Write};
+use std::process::{Child, ChildStdin, ChildStdout, Stdio};
 
 /// The answer of planning; 0 where the header says 0.
 #[derive(Clone, Copy, Debug, Default, PartialEq, Eq)]
@@ -57,89 +63,188 @@ pub mod flag {
     pub const SOFT: u8 = 2;
 }
 
-mod c {
-    extern "C" {
-        pub fn shim_plan(
-            block: *mut u8,
-            block_bytes: usize,
-            table: *const u8,
-            table_bytes: usize,
-            fields: *mut u64,
-        );
-        pub fn shim_tick(
-            block: *mut u8,
-            block_bytes: usize,
-            released: u16,
-            flags: u8,
-            fields: *mut u64,
-        );
-        pub fn shim_offer(
-            block: *mut u8,
-            block_bytes: usize,
-            budget: u16,
-            deadline: u16,
-            fields: *mut u64,
-        );
-        pub fn shim_table(
-            block: *const u8,
-            block_bytes: usize,
-            out: *mut u8,
-            out_bytes: usize,
-            fields: *mut u64,
-        );
+/// The functions, as the shim numbers them.
+mod function {
+    pub const PLAN: u64 = 0;
+    pub const TICK: u64 = 1;
+    pub const OFFER: u64 = 2;
+    pub const TABLE: u64 = 3;
+    pub const TICKS: u64 = 4;
+}
+
+/// The fields at the front of an answer.
+const FIELDS: usize = 11;
+
+/// The shim of a thread.
+struct Shim {
+    process: Child,
+    to: Option<ChildStdin>,
+    from: BufReader<ChildStdout>,
+    /// Requests that are not yet written.
+    requests: Vec<u8>,
+}
+
+thread_local! {
+    static SHIM: RefCell<Shim> = RefCell::new(Shim::start());
+}
+
+impl Shim {
+    fn start() -> Shim {
+        let mut command = machine::program("c/shim");
+        let piped = command.stdin(Stdio::piped()).stdout(Stdio::piped());
+        let mut process = piped.spawn().expect("the shim is built");
+        let to = process.stdin.take();
+        let from = BufReader::new(process.stdout.take().unwrap());
+        Shim { process, to, from, requests: Vec::new() }
     }
+
+    fn ask(&mut self, function: u64, arguments: [u64; 2], block: &[u8], other: &[u8]) {
+        let lengths = [block.len() as u64, other.len() as u64];
+        for number in [function].iter().chain(&lengths).chain(&arguments) {
+            self.requests.extend(number.to_le_bytes());
+        }
+        self.requests.extend_from_slice(block);
+        self.requests.extend_from_slice(other);
+    }
+
+    fn read(&mut self, bytes: &mut [u8]) {
+        if !self.requests.is_empty() {
+            self.to.as_mut().unwrap().write_all(&self.requests).expect("the shim reads");
+            self.requests.clear();
+        }
+        self.from.read_exact(bytes).expect("the shim answers");
+    }
+
+    fn number(&mut self) -> u64 {
+        let mut bytes = [0; 8];
+        self.read(&mut bytes);
+        u64::from_le_bytes(bytes)
+    }
+}
+
+impl Drop for Shim {
+    /// The shim ends where its requests do.
+    fn drop(&mut self) {
+        drop(self.to.take());
+        self.process.wait().expect("a process");
+    }
+}
+
+/// A call that is asked for. Some may be asked for in one go, as many as a pipe
+/// holds, before the answer of the first is taken; all are answered in turn.
+#[must_use]
+pub struct Asked<Answer> {
+    block_bytes: usize,
+    other_bytes: usize,
+    answer: fn([u64; FIELDS]) -> Answer,
+}
+
+/// What there is after a call: its answer, and the bytes that were lent to it.
+pub struct Answered<Answer> {
+    pub answer: Answer,
+    pub block: Vec<u8>,
+    pub other: Vec<u8>,
+}
+
+impl<Answer> Asked<Answer> {
+    fn ask(
+        function: u64,
+        arguments: [u64; 2],
+        block: &[u8],
+        other: &[u8],
+        answer: fn([u64; FIELDS]) -> Answer,
+    ) -> Asked<Answer> {
+        SHIM.with_borrow_mut(|shim| shim.ask(function, arguments, block, other));
+        Asked { block_bytes: block.len(), other_bytes: other.len(), answer }
+    }
+
+    pub fn answered(self) -> Answered<Answer> {
+        SHIM.with_borrow_mut(|shim| {
+            let fields = std::array::from_fn(|_| shim.number());
+            let around_stands = shim.number() == 1;
+            let (mut block, mut other) = (vec![0; self.block_bytes], vec![0; self.other_bytes]);
+            shim.read(&mut block);
+            shim.read(&mut other);
+            assert!(around_stands, "a call wrote to bytes around those that were lent");
+            Answered { answer: (self.answer)(fields), block, other }
+        })
+    }
+
+    /// The answer; the block is left as the call left it.
+    fn answer(self, block: &mut [u8]) -> Answer {
+        let answered = self.answered();
+        block.copy_from_slice(&answered.block);
+        answered.answer
+    }
+}
+
+pub fn ask_plan(block: &[u8], table: &[u8]) -> Asked<PlanAnswer> {
+    Asked::ask(function::PLAN, [0, 0], block, table, |[refusal, row, from, size, ..]| PlanAnswer {
+        refusal,
+        row,
+        from,
+        size,
+    })
+}
+
+pub fn ask_tick(block: &[u8], released: u16, flags: u8) -> Asked<TickAnswer> {
+    let arguments = [released.into(), flags.into()];
+    Asked::ask(
+        function::TICK,
+        arguments,
+        block,
+        &[],
+        |[refusal, row, clock, runner, runner_row, band, ticket, closed, closed_row, closed_ticket, closing]| {
+            TickAnswer {
+                refusal,
+                row,
+                clock,
+                runner,
+                runner_row,
+                band,
+                ticket,
+                closed,
+                closed_row,
+                closed_ticket,
+                closing,
+            }
+        },
+    )
+}
+
+pub fn ask_offer(block: &[u8], budget: u16, deadline: u16) -> Asked<OfferAnswer> {
+    let arguments = [budget.into(), deadline.into()];
+    Asked::ask(function::OFFER, arguments, block, &[], |[refusal, ticket, ..]| OfferAnswer {
+        refusal,
+        ticket,
+    })
+}
+
+pub fn ask_table(block: &[u8], out: &[u8]) -> Asked<TableAnswer> {
+    Asked::ask(function::TABLE, [0, 0], block, out, |[refusal, size, ..]| TableAnswer {
+        refusal,
+        size,
+    })
 }
 
 pub fn plan(block: &mut [u8], table: &[u8]) -> PlanAnswer {
-    let mut fields = [0; 4];
-    // Both slices and the array are lent for the call and have the lengths given.
-    unsafe {
-        c::shim_plan(
-            block.as_mut_ptr(),
-            block.len(),
-            table.as_ptr(),
-            table.len(),
-            fields.as_mut_ptr(),
-        )
-    };
-    let [refusal, row, from, size] = fields;
-    PlanAnswer { refusal, row, from, size }
+    let answered = ask_plan(block, table).answered();
+    assert!(answered.other == table, "planning wrote to the table");
+    block.copy_from_slice(&answered.block);
+    answered.answer
 }
 
 pub fn tick(block: &mut [u8], released: u16, flags: u8) -> TickAnswer {
-    let mut fields = [0; 11];
-    unsafe { c::shim_tick(block.as_mut_ptr(), block.len(), released, flags, fields.as_mut_ptr()) };
-    let [refusal, row, clock, runner, runner_row, band, ticket, closed, closed_row, closed_ticket, closing] =
-        fields;
-    TickAnswer {
-        refusal,
-        row,
-        clock,
-        runner,
-        runner_row,
-        band,
-        ticket,
-        closed,
-        closed_row,
-        closed_ticket,
-        closing,
-    }
+    ask_tick(block, released, flags).answer(block)
 }
 
 pub fn offer(block: &mut [u8], budget: u16, deadline: u16) -> OfferAnswer {
-    let mut fields = [0; 2];
-    unsafe {
-        c::shim_offer(block.as_mut_ptr(), block.len(), budget, deadline, fields.as_mut_ptr())
-    };
-    let [refusal, ticket] = fields;
-    OfferAnswer { refusal, ticket }
+    ask_offer(block, budget, deadline).answer(block)
 }
 
-pub fn table(block: &[u8], out: &mut [u8]) -> TableAnswer {
-    let mut fields = [0; 2];
-    unsafe {
-        c::shim_table(block.as_ptr(), block.len(), out.as_mut_ptr(), out.len(), fields.as_mut_ptr())
-    };
-    let [refusal, size] = fields;
-    TableAnswer { refusal, size }
+/// Ticks that release nothing and have no flags, the first at this clock: how many
+/// of so many were accepted in turn, each with a clock one more than the one before.
+pub fn ticks(block: &mut [u8], clock: u64, how_many: u64) -> u64 {
+    let arguments = [clock, how_many];
+    Asked::ask(function::TICKS, arguments, block, &[], |[accepted, ..]| accepted).answer(block)
 }

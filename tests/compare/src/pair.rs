@@ -1,7 +1,8 @@
 //! A block and the station it must stand for, given the same calls.
 
-use crate::caller::{Call, Caller, LONGEST};
+use crate::caller::{Call, Caller};
 use crate::counts::Counts;
+use crate::library::{Asked, TableAnswer};
 use crate::watch::Watch;
 use crate::{expected, library};
 use reference::block::{encode, BLOCK};
@@ -9,49 +10,52 @@ use reference::station::{releases_row, HardRow, Station, ROLL_OVER};
 use reference::table::{Row, HEADER, MOST_ROWS, ROW_FIELD};
 use std::fmt::Debug;
 
-/// What is lent lies between bytes that nobody may write, at an address that is
-/// no multiple of anything.
-const BEFORE: usize = 13;
-const AFTER: usize = LONGEST - BLOCK;
-const GUARD: u8 = 0xa5;
+/// What an output holds before it is written.
+const UNWRITTEN: u8 = 0xa5;
 
-/// A block with its guards.
-#[derive(Clone, PartialEq, Eq)]
-pub struct Lent {
-    bytes: [u8; BEFORE + BLOCK + AFTER],
+/// Asks for the table of a block, into an output of so many bytes.
+pub fn ask_table_back(block: &[u8], bytes: usize) -> Asked<TableAnswer> {
+    library::ask_table(block, &vec![UNWRITTEN; bytes])
 }
 
-impl Lent {
-    pub fn new(block: &[u8; BLOCK]) -> Lent {
-        let mut bytes = [GUARD; BEFORE + BLOCK + AFTER];
-        bytes[BEFORE..BEFORE + BLOCK].copy_from_slice(block);
-        Lent { bytes }
-    }
-
-    pub fn block(&mut self) -> &mut [u8] {
-        &mut self.bytes[BEFORE..BEFORE + BLOCK]
-    }
-
-    /// The first bytes of the block and what follows it, a wrong length.
-    fn of_length(&mut self, length: usize) -> &mut [u8] {
-        &mut self.bytes[BEFORE..BEFORE + length]
-    }
-}
-
-/// The table of a block read back into an output of so many bytes; the refusal
-/// it met. The block stands for the station, for none if it is no image.
-pub fn table_back(block: &[u8], station: Option<&Station>, bytes: usize) -> u64 {
-    let mut out = vec![GUARD; BEFORE + bytes + AFTER];
-    let mut want = out.clone();
-    let lent = BEFORE..BEFORE + bytes;
-    let answer = library::table(block, &mut out[lent.clone()]);
+/// The table of a block, which is only read; the refusal it met. The block stands
+/// for the station, for none if it is no image.
+pub fn table_back(asked: Asked<TableAnswer>, block: &[u8], station: Option<&Station>) -> u64 {
+    let answered = asked.answered();
+    let bytes = answered.other.len();
+    let mut want = vec![UNWRITTEN; bytes];
     assert_eq!(
-        answer,
-        expected::table(station, &mut want[lent]),
+        answered.answer,
+        expected::table(station, &mut want),
         "the table in {bytes} bytes of {block:02x?}"
     );
-    assert!(out == want, "{bytes} bytes after reading the table back of {block:02x?}");
-    answer.refusal
+    assert!(answered.other == want, "{bytes} bytes after reading the table back of {block:02x?}");
+    assert!(answered.block == block, "the block after reading back {block:02x?}");
+    answered.answer.refusal
+}
+
+/// All four functions on the block, cut or drawn out to a wrong length: 11, but
+/// for a tick's flags, which are looked at first. Nothing is written; the refusals.
+pub fn on_wrong_length(block: &[u8; BLOCK], bytes: usize, flags: u8) -> [u64; 4] {
+    let file = [0x0f, 0, 0];
+    let mut lent = block.to_vec();
+    lent.resize(bytes, 0);
+    let plan = library::ask_plan(&lent, &file);
+    let tick = library::ask_tick(&lent, 0, flags);
+    let offer = library::ask_offer(&lent, 1, 9);
+    let table = ask_table_back(&lent, file_bytes(MOST_ROWS));
+
+    let plan = plan.answered();
+    assert_eq!(plan.answer, expected::plan(&file, bytes).0, "planning on {bytes} bytes");
+    let tick = tick.answered();
+    assert_eq!(tick.answer, expected::tick(None, 0, flags), "a tick on {bytes} bytes");
+    let offer = offer.answered();
+    assert_eq!(offer.answer, expected::offer(None, 1, 9), "an offer on {bytes} bytes");
+    for left in [plan.block, tick.block, offer.block] {
+        assert!(left == lent, "{bytes} bytes were written to");
+    }
+    let table = table_back(table, &lent, None);
+    [plan.answer.refusal, tick.answer.refusal, offer.answer.refusal, table]
 }
 
 /// The length of a table's file.
@@ -66,7 +70,7 @@ pub struct Pair {
     pub station: Station,
     /// Calls made on it, to know when the table is due.
     made: usize,
-    lent: Lent,
+    block: [u8; BLOCK],
     watch: Option<Watch>,
     pub counts: Counts,
 }
@@ -75,24 +79,24 @@ impl Pair {
     /// Planned from a file that is accepted.
     pub fn planned(file: &[u8]) -> Pair {
         // Planning depends on nothing that the block held.
-        let mut lent = Lent::new(&[0x5a; BLOCK]);
-        let answer = library::plan(lent.block(), file);
+        let mut block = [0x5a; BLOCK];
+        let answer = library::plan(&mut block, file);
         let (want, table) = expected::plan(file, BLOCK);
         assert_eq!(answer, want, "planning");
         let station = Station::new(&table.expect("an accepted table"));
-        let pair = Pair::new(station, lent);
+        let pair = Pair::new(station, block);
         pair.agree(&"planning");
         pair
     }
 
     /// From the image of a station, as `docs/block.md` lays it out.
     pub fn of_station(station: Station) -> Pair {
-        let lent = Lent::new(&encode(&station));
-        Pair::new(station, lent)
+        let block = encode(&station);
+        Pair::new(station, block)
     }
 
-    fn new(station: Station, lent: Lent) -> Pair {
-        Pair { station, made: 0, lent, watch: None, counts: Counts::default() }
+    fn new(station: Station, block: [u8; BLOCK]) -> Pair {
+        Pair { station, made: 0, block, watch: None, counts: Counts::default() }
     }
 
     /// Watches demand 3 from here on. Only for what a fresh state leads to.
@@ -110,13 +114,13 @@ impl Pair {
     }
 
     pub fn call(&mut self, call: Call) {
-        let before = self.lent.clone();
+        let before = self.block;
         let accepted = match call {
             Call::Tick { released, flags } => self.tick(released, flags),
             Call::Offer { budget, deadline } => self.offer(budget, deadline),
             Call::WrongLength { bytes, flags } => self.wrong_length(bytes, flags),
         };
-        assert!(accepted || self.lent == before, "{call:?} was refused and wrote");
+        assert!(accepted || self.block == before, "{call:?} was refused and wrote");
         self.agree(&call);
         self.made += 1;
         if self.made.is_multiple_of(BETWEEN_TABLES) {
@@ -127,7 +131,7 @@ impl Pair {
     /// A tick on both; whether it was accepted.
     fn tick(&mut self, released: u16, flags: u8) -> bool {
         let slept = self.slept(released);
-        let answer = library::tick(self.lent.block(), released, flags);
+        let answer = library::tick(&mut self.block, released, flags);
         let want = expected::tick(Some(&mut self.station), released, flags);
         assert_eq!(answer, want, "tick, released {released:#06x}, flags {flags}");
         self.counts.call(answer.refusal);
@@ -156,7 +160,7 @@ impl Pair {
 
     /// An offer on both; whether it was accepted.
     fn offer(&mut self, budget: u16, deadline: u16) -> bool {
-        let answer = library::offer(self.lent.block(), budget, deadline);
+        let answer = library::offer(&mut self.block, budget, deadline);
         let want = expected::offer(Some(&mut self.station), budget, deadline);
         assert_eq!(answer, want, "offer, budget {budget}, deadline {deadline}");
         self.counts.call(answer.refusal);
@@ -174,30 +178,20 @@ impl Pair {
     /// one two bytes too long.
     fn table(&mut self) {
         let bytes = file_bytes(self.station.rows.len()) - 2 + self.made / BETWEEN_TABLES % 5;
-        self.counts.call(table_back(self.lent.block(), Some(&self.station), bytes));
-        self.agree(&"reading the table back");
+        let asked = ask_table_back(&self.block, bytes);
+        self.counts.call(table_back(asked, &self.block, Some(&self.station)));
     }
 
-    /// All four functions on a slice of a wrong length: 11, but for a tick's
-    /// flags, which are looked at first.
     fn wrong_length(&mut self, bytes: usize, flags: u8) -> bool {
-        let file = [0x0f, 0, 0];
-        let plan = library::plan(self.lent.of_length(bytes), &file);
-        assert_eq!(plan, expected::plan(&file, bytes).0, "planning on {bytes} bytes");
-        let tick = library::tick(self.lent.of_length(bytes), 0, flags);
-        assert_eq!(tick, expected::tick(None, 0, flags), "a tick on {bytes} bytes");
-        let offer = library::offer(self.lent.of_length(bytes), 1, 1);
-        assert_eq!(offer, expected::offer(None, 1, 1), "an offer on {bytes} bytes");
-        let table = table_back(self.lent.of_length(bytes), None, file_bytes(MOST_ROWS));
-        for refusal in [plan.refusal, tick.refusal, offer.refusal, table] {
+        for refusal in on_wrong_length(&self.block, bytes, flags) {
             self.counts.call(refusal);
         }
         false
     }
 
-    /// The block holds the station's image, and what lies around it stands.
+    /// The block holds the station's image.
     fn agree(&self, call: &dyn Debug) {
-        let image = Lent::new(&encode(&self.station));
-        assert!(self.lent == image, "after {call:?} the block is not the image of the station");
+        let image = encode(&self.station);
+        assert!(self.block == image, "after {call:?} the block is not the image of the station");
     }
 }

@@ -3,7 +3,7 @@
 
 use crate::caller::{Call, Caller};
 use crate::counts::Counts;
-use crate::pair::Lent;
+use crate::machine::program;
 use crate::tables::{accepted, Kind};
 use crate::{expected, library};
 use reference::block::{encode, BLOCK};
@@ -14,13 +14,7 @@ use reference::station::Station;
 use reference::table::{file_of_rows, read_table, scan};
 use std::fs;
 use std::io::Write;
-use std::path::{Path, PathBuf};
-use std::process::{Command, Stdio};
-
-/// Where `rt` puts the programs.
-fn program(name: &str) -> PathBuf {
-    Path::new(env!("CARGO_MANIFEST_DIR")).join("../../target/bin").join(name)
-}
+use std::process::Stdio;
 
 pub fn case(seed: u64) -> Counts {
     let mut random = Random::new(seed);
@@ -51,7 +45,7 @@ fn kept(random: &mut Random, file: Vec<u8>) -> Option<Vec<u8>> {
 
 /// What `plan` prints.
 fn plan(table: &[u8]) -> String {
-    let mut command = Command::new(program("plan"));
+    let mut command = program("bin/plan");
     let mut child =
         command.stdin(Stdio::piped()).stdout(Stdio::piped()).spawn().expect("plan is built");
     // A table that is too long need not be read to its end.
@@ -71,7 +65,7 @@ fn run(seed: u64, table: &Option<Vec<u8>>, events: &Option<Vec<u8>>) -> String {
             fs::write(folder.join(name), bytes).unwrap();
         }
     }
-    let output = Command::new(program("run")).current_dir(&folder).output().expect("run is built");
+    let output = program("bin/run").current_dir(&folder).output().expect("run is built");
     fs::remove_dir_all(&folder).unwrap();
     assert!(output.status.success(), "run ended with {}", output.status);
     String::from_utf8(output.stdout).expect("run prints text")
@@ -80,12 +74,12 @@ fn run(seed: u64, table: &Option<Vec<u8>>, events: &Option<Vec<u8>>) -> String {
 /// Planning through the header; the refusal, or 0.
 fn planned(table: &[u8]) -> u64 {
     let before = [0x3c; BLOCK];
-    let mut lent = Lent::new(&before);
-    let answer = library::plan(lent.block(), table);
+    let mut block = before;
+    let answer = library::plan(&mut block, table);
     let (want, accepted) = expected::plan(table, BLOCK);
     assert_eq!(answer, want, "planning {table:02x?}");
     let after = accepted.map_or(before, |table| encode(&Station::new(&table)));
-    assert!(lent == Lent::new(&after), "the block after planning {table:02x?}");
+    assert!(block == after, "the block after planning {table:02x?}");
     answer.refusal
 }
 
