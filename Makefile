@@ -34,7 +34,7 @@ SANITIZE = -O1 -fsanitize=$(SANITIZERS) -fno-sanitize-recover=all
 VALGRIND = valgrind --quiet --error-exitcode=1 --leak-check=full
 
 HEADER = include/heechstjer.h
-PROGRAMS = answers answers-sanitized kernel kernel-sanitized kernel-cpp page
+PROGRAMS = answers answers-sanitized kernel kernel-sanitized kernel-cpp readme page
 
 SHELL = bash
 .SHELLFLAGS = -euo pipefail -c
@@ -83,11 +83,13 @@ $(OUT)/%-sanitized: tests/c/%.c $(HEADER) $(LIB) | $(OUT)
 $(OUT)/%-cpp: examples/%.c $(HEADER) $(LIB) | $(OUT)
 	$(CXX) $(CXXFLAGS) -Iinclude -x c++ $< -x none $(LIB) -o $@
 
-# The example on the first page of the docs.
-$(OUT)/page.c: docs/c-interface.md | $(OUT)
+# The examples on the first pages.
+$(OUT)/readme.c: README.md
+$(OUT)/page.c: docs/c-interface.md
+$(OUT)/readme.c $(OUT)/page.c: | $(OUT)
 	sed '1,/^```c$$/d; /^```$$/,$$d' $< > $@
 
-$(OUT)/page: $(OUT)/page.c $(HEADER) $(LIB)
+$(OUT)/readme $(OUT)/page: $(OUT)/%: $(OUT)/%.c $(HEADER) $(LIB)
 	$(CC) $(CFLAGS) -Iinclude $< $(LIB) -o $@
 
 needs: $(LIB)
@@ -101,6 +103,7 @@ test-c: $(PROGRAMS:%=$(OUT)/%)
 	$(EMULATOR) $(OUT)/kernel | diff tests/c/kernel.want -
 	$(EMULATOR) $(OUT)/kernel-cpp | diff tests/c/kernel.want -
 	$(EMULATOR) $(OUT)/kernel-sanitized | diff tests/c/kernel.want -
+	$(EMULATOR) $(OUT)/readme
 	test "$$($(EMULATOR) $(OUT)/page)" = "F0 arrived"
 ifdef EMULATOR
 	@echo "left out under the emulator: the address sanitizer and valgrind"

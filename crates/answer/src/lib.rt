@@ -4,7 +4,7 @@ ghost use Prim.Native.Nat.{_<_};
 ghost use Rattle.answer.specs.Below.{ClosingBelow, RunnerBelow};
 ghost use Rattle.answer.specs.Numbers.{bandNumber, closingNumbers, firmClosing, hardClosing, rowNumber, runnerNumbers};
 
-// Whether a hard job that runs is promoted.
+// The band in which a hard row runs: upper where its job is promoted.
 pub enum Band {
     Upper,
     Lower,

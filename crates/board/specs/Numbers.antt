@@ -1,4 +1,4 @@
--- The answers to C in numbers: every case of every enum. Rows are counted from 1 here; 0 stands where a number says nothing. Assumes nothing.
+-- The answers to C in numbers, field by field. Rows are counted from 1 here; 0 stands where a number says nothing. Assumes nothing.
 use Prim.Native.Nat.{ℕ}
 use Rattle.table.specs.declared.Written.{Written}
 use Rattle.table.specs.declared.Written.the-variants.{Length, Refused}

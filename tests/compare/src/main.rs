@@ -62,7 +62,7 @@ static SUITES: [Suite; 4] = [
     Suite {
         name: "programs",
         case: programs::case,
-        cases: 4200,
+        cases: 2800,
         enough: |tried| tried.programs >= 5_000 && (1..=10).all(|number| tried.met(number)),
     },
 ];
