@@ -3,7 +3,7 @@
 #   make lib                  prove the library and write it as an archive
 #   make example              build the example and run it
 #   make needs                what the library asks of a board: symbols, registers, stack
-#   make test-c               the C tests and the example: plain, as C++, under sanitizers, under valgrind; and make needs
+#   make test-c               the C tests and the example: plain, under sanitizers, under valgrind; the example as C++; make needs
 #   make install PREFIX=DIR   library, header and pkg-config file under DIR (default /usr/local)
 #   make test-install         install to a temporary place, and build the example through pkg-config
 #   make shim                 what tests/compare.sh asks, target/c/shim
