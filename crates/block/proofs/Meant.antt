@@ -23,6 +23,7 @@ use Rattle.state.specs.Meaning.{Kept, ageAt, entry, firmAt, firmsOf, lastOf, ro
 use Rattle.state.proofs.Bools.{or-yes}
 use Rattle.state.proofs.Positions.{length-rows, map-rows, rows-all}
 use Rattle.block.specs.Layout.{Long}
+use Rattle.block.specs.Tests.{mostRun}
 use Rattle.block.specs.Image.{Imaged}
 use Rattle.block.proofs.Bits.{in-known}
 use Rattle.block.proofs.Entered.{entry-out, rows-hold, rows-run}
@@ -162,7 +163,7 @@ module _ (rows : Rows) (s : State) (L : Long rows s) (F : Fit rows s) (C : Check
       let e : 1 - entry (s .budget) j ≡ 0 = rw (lt-ltb j (s .count) h) at (S .there) in
       (omega arith, less (eqb j 0 && eqb 16 (s .last)) (S .runs), F .budget-lt j)
     where
-      less : (b : Bool) → entry (s .used) j ≤ entry (s .budget) j - cond b 0 1 → entry (s .used) j ≤ entry (s .budget) j
+      less : (b : Bool) → entry (s .used) j ≤ mostRun b (entry (s .budget) j) → entry (s .used) j ≤ entry (s .budget) j
       less true l = omega arith
       less false l = omega arith
 
@@ -173,7 +174,7 @@ module _ (rows : Rows) (s : State) (L : Long rows s) (F : Fit rows s) (C : Check
       first : j ≡ 0 → 16 ≡ s .last → lastTo (lastOf s) (entry (s .ticket) j) ≡ true
       first p q = rw (p, ← q) (eq-eqb (entry (s .ticket) 0) (entry (s .ticket) 0) refl)
 
-      go : (a : Bool) → eqb j 0 ≡ a → (b : Bool) → eqb 16 (s .last) ≡ b → entry (s .used) j ≤ entry (s .budget) j - cond (a && b) 0 1 → entry (s .used) j < entry (s .budget) j
+      go : (a : Bool) → eqb j 0 ≡ a → (b : Bool) → eqb 16 (s .last) ≡ b → entry (s .used) j ≤ mostRun (a && b) (entry (s .budget) j) → entry (s .used) j < entry (s .budget) j
       go true p true q l = absurd (true≢false (sym (first (eqb-true j 0 p) (eqb-true 16 (s .last) q)) ∙ e))
       go true p false q l = omega (arith, paid j h .0)
       go false p b q l = omega (arith, paid j h .0)

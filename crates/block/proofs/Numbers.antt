@@ -14,7 +14,7 @@ use Rattle.rules.proofs.Facts.{Runs, TicketsTo, closed-not-open}
 use Rattle.rules.proofs.ImageTests.{opened-same}
 use Rattle.state.specs.Meaning.{rowsFrom, wrapped}
 use Rattle.state.proofs.Positions.{length-rows}
-use Rattle.block.specs.Tests.{firmFault, hardFault, stampFault}
+use Rattle.block.specs.Tests.{firmFault, hardFault, mostRun, stampFault}
 use Rattle.block.proofs.Ors.{none-or, or-none}
 
 -- a row
@@ -24,13 +24,13 @@ pub record HardSays (live o ran : Bool) (c d t u run : ℕ) : Type 0 where
   pub D-le : d ≤ t
   pub U-le : u + c ≤ d
   pub there : cond live (1 - c) t ≡ 0
-  pub runs : run ≤ cond o (c - cond ran 0 1) 0
+  pub runs : run ≤ cond o (mostRun ran c) 0
 
 module _ (live o ran : Bool) (c d t u run : ℕ) where
   pub hard-says : hardFault live o ran c d t u run ≡ 0 → HardSays live o ran c d t u run
   unfolding hardFault
   hard-says e =
-      let (e4, r) = or-none (bitOr (bitOr (bitOr (c - d) (d - t)) (u - (d - c))) (cond live (1 - c) t)) (run - cond o (c - cond ran 0 1) 0) e in
+      let (e4, r) = or-none (bitOr (bitOr (bitOr (c - d) (d - t)) (u - (d - c))) (cond live (1 - c) t)) (run - cond o (mostRun ran c) 0) e in
       let (e3, l) = or-none (bitOr (bitOr (c - d) (d - t)) (u - (d - c))) (cond live (1 - c) t) e4 in
       let (e2, w) = or-none (bitOr (c - d) (d - t)) (u - (d - c)) e3 in
       let (a, b) = or-none (c - d) (d - t) e2 in
@@ -39,7 +39,7 @@ module _ (live o ran : Bool) (c d t u run : ℕ) where
   pub says-hard : HardSays live o ran c d t u run → hardFault live o ran c d t u run ≡ 0
   unfolding hardFault
   says-hard R =
-      none-or (bitOr (bitOr (bitOr (c - d) (d - t)) (u - (d - c))) (cond live (1 - c) t)) (run - cond o (c - cond ran 0 1) 0)
+      none-or (bitOr (bitOr (bitOr (c - d) (d - t)) (u - (d - c))) (cond live (1 - c) t)) (run - cond o (mostRun ran c) 0)
       (none-or (bitOr (bitOr (c - d) (d - t)) (u - (d - c))) (cond live (1 - c) t)
       (none-or (bitOr (c - d) (d - t)) (u - (d - c)) (none-or (c - d) (d - t) (omega (arith, R .C-le)) (omega (arith, R .D-le))) (omega (arith, R .U-le, R .C-le)))
       (R .there))
@@ -47,12 +47,12 @@ module _ (live o ran : Bool) (c d t u run : ℕ) where
 
 -- the ticks run of a row's job
 module _ (r : Row) (U age run : ℕ) where
-  pub to-runs : (o ran : Bool) → 1 ≤ r .C → run ≤ cond o (r .C - cond ran 0 1) 0 → Runs ran (record { row = r; U = U; age = age; job = cond o (opened run) closed })
+  pub to-runs : (o ran : Bool) → 1 ≤ r .C → run ≤ cond o (mostRun ran (r .C)) 0 → Runs ran (record { row = r; U = U; age = age; job = cond o (opened run) closed })
   to-runs false ran c h = record { others = λ l q e. absurd (closed-not-open e); at-most = λ q e. absurd (closed-not-open e) }
   to-runs true true c h = record { others = λ l. absurd (true≢false l); at-most = λ q e. omega (arith, opened-same e) }
   to-runs true false c h = record { others = λ l q e. omega (arith, opened-same e); at-most = λ q e. omega (arith, opened-same e) }
 
-  pub from-runs : (o ran : Bool) → Runs ran (record { row = r; U = U; age = age; job = cond o (opened run) closed }) → (o ≡ false → run ≡ 0) → run ≤ cond o (r .C - cond ran 0 1) 0
+  pub from-runs : (o ran : Bool) → Runs ran (record { row = r; U = U; age = age; job = cond o (opened run) closed }) → (o ≡ false → run ≡ 0) → run ≤ cond o (mostRun ran (r .C)) 0
   from-runs false ran R z = omega (arith, z refl)
   from-runs true true R z = omega (arith, R .at-most run refl)
   from-runs true false R z = omega (arith, R .others refl run refl)
@@ -79,16 +79,16 @@ stamp-says false t clock stamp z y = let e = lt-ltb (wrapped clock stamp) t (y r
 
 pub record FirmSays (queued ran : Bool) (budget used : ℕ) : Type 0 where
   pub there : cond queued (1 - budget) budget ≡ 0
-  pub runs : used ≤ budget - cond ran 0 1
+  pub runs : used ≤ mostRun ran budget
 
 module _ (queued ran : Bool) (budget used : ℕ) where
   pub firm-says : firmFault queued ran budget used ≡ 0 → FirmSays queued ran budget used
   firm-says e =
-      let (a, b) = or-none (cond queued (1 - budget) budget) (used - (budget - cond ran 0 1)) e in
+      let (a, b) = or-none (cond queued (1 - budget) budget) (used - mostRun ran budget) e in
       record { there = a; runs = omega arith }
 
   pub says-firm : FirmSays queued ran budget used → firmFault queued ran budget used ≡ 0
-  says-firm F = none-or (cond queued (1 - budget) budget) (used - (budget - cond ran 0 1)) (F .there) (omega (arith, F .runs))
+  says-firm F = none-or (cond queued (1 - budget) budget) (used - mostRun ran budget) (F .there) (omega (arith, F .runs))
 
 -- tickets
 

@@ -22,6 +22,7 @@ use Rattle.table.specs.Memory.{rowAt}
 use Rattle.state.specs.Meaning.{Kept, ageAt, entry, firmAt, firmsOf, lastOf, rowsFrom, slotAt, slotsOf, stationOf, wrapped}
 use Rattle.state.proofs.Positions.{all-rows, holds-rows, map-rows}
 use Rattle.state.proofs.Widths.{Widths, image-of, row-good, runs-rows, widths}
+use Rattle.block.specs.Tests.{mostRun}
 use Rattle.block.specs.Image.{Imaged}
 use Rattle.block.proofs.Bits.{known-in}
 use Rattle.block.proofs.Meant.{last-is}
@@ -83,11 +84,11 @@ module _ (rows : Rows) (s : State) (I : Imaged rows s) where
       (λ l. let G = row-good rows s (I .stored) i l in (omega (arith, G .U-le), G .D-le, G .U-le))
       (λ g. omega (arith, K .table .past i g))
 
-  run-le : (i : ℕ) → entry (s .run) i ≤ cond (bit (s .«open») i) (entry (rows .table .c) i - cond (eqb i (s .last)) 0 1) 0
-  run-le i = row-case (λ k. entry (s .run) k ≤ cond (bit (s .«open») k) (entry (rows .table .c) k - cond (eqb k (s .last)) 0 1) 0) i inside
+  run-le : (i : ℕ) → entry (s .run) i ≤ cond (bit (s .«open») i) (mostRun (eqb i (s .last)) (entry (rows .table .c) i)) 0
+  run-le i = row-case (λ k. entry (s .run) k ≤ cond (bit (s .«open») k) (mostRun (eqb k (s .last)) (entry (rows .table .c) k)) 0) i inside
       (λ g. rw (K .jobs .open-past i g) (omega (arith, K .jobs .run-blank i (K .jobs .open-past i g))))
     where
-      inside : i < rows .table .n → entry (s .run) i ≤ cond (bit (s .«open») i) (entry (rows .table .c) i - cond (eqb i (s .last)) 0 1) 0
+      inside : i < rows .table .n → entry (s .run) i ≤ cond (bit (s .«open») i) (mostRun (eqb i (s .last)) (entry (rows .table .c) i)) 0
       inside l =
           let few = K .table .few in
           from-runs (rowAt (rows .table) i) (entry (rows .u) i) (ageAt rows s i) (entry (s .run) i) (bit (s .«open») i) (eqb i (s .last)) (rw (last-is s i (omega arith)) at (runs i l)) (K .jobs .run-blank i)
@@ -154,12 +155,12 @@ module _ (rows : Rows) (s : State) (I : Imaged rows s) where
       go false true p = ne-eqb (entry (s .ticket) j) (entry (s .ticket) 0) (other (sym (eqb-true (s .last) 16 p)))
       go false false p = refl
 
-  firm-runs : (j : ℕ) → entry (s .used) j ≤ entry (s .budget) j - cond (eqb j 0 && eqb 16 (s .last)) 0 1
-  firm-runs j = firm-case (λ k. entry (s .used) k ≤ entry (s .budget) k - cond (eqb k 0 && eqb 16 (s .last)) 0 1) j
+  firm-runs : (j : ℕ) → entry (s .used) j ≤ mostRun (eqb j 0 && eqb 16 (s .last)) (entry (s .budget) j)
+  firm-runs j = firm-case (λ k. entry (s .used) k ≤ mostRun (eqb k 0 && eqb 16 (s .last)) (entry (s .budget) k)) j
       (λ l. go (eqb j 0 && eqb 16 (s .last)) (not-last j l) l)
       (λ g. omega (arith, K .queue .past j g .2))
     where
-      go : (b : Bool) → (b ≡ false → lastTo (lastOf s) (entry (s .ticket) j) ≡ false) → j < s .count → entry (s .used) j ≤ entry (s .budget) j - cond b 0 1
+      go : (b : Bool) → (b ≡ false → lastTo (lastOf s) (entry (s .ticket) j) ≡ false) → j < s .count → entry (s .used) j ≤ mostRun b (entry (s .budget) j)
       go true n l = omega (arith, paid j l .1)
       go false n l = omega (arith, live j l (n refl))
 

@@ -28,11 +28,15 @@ unfoldable pub orOf : (ℕ → ℕ) → ℕ → ℕ
 orOf f zero = 0
 orOf f (suc n) = bitOr (orOf f n) (f n)
 
--- the rows: C ≤ D ≤ T, U ≤ D − C, C ≥ 1 where there is a row and T = 0 where there is none; ticks run: at most C if the job is the last runner, else below it, 0 if closed
+-- the ticks that a job may have run: its whole budget if it is the last runner, else less
+abbrev pub mostRun : Bool → ℕ → ℕ
+mostRun ran budget = budget - cond ran 0 1
+
+-- the rows: C ≤ D ≤ T, U ≤ D − C, C ≥ 1 where there is a row and T = 0 where there is none; ticks run: as many as a job may, 0 if closed
 
 -- of one row
 unfoldable pub hardFault : Bool → Bool → Bool → ℕ → ℕ → ℕ → ℕ → ℕ → ℕ
-hardFault live o ran c d t u run = bitOr (bitOr (bitOr (bitOr (c - d) (d - t)) (u - (d - c))) (cond live (1 - c) t)) (run - cond o (c - cond ran 0 1) 0)
+hardFault live o ran c d t u run = bitOr (bitOr (bitOr (bitOr (c - d) (d - t)) (u - (d - c))) (cond live (1 - c) t)) (run - cond o (mostRun ran c) 0)
 
 -- of the row at i
 abbrev pub hardFaultAt : List ℕ → ℕ → ℕ → ℕ → ℕ → ℕ
@@ -79,11 +83,11 @@ stampFaultAt b quiet clock i = stampFault (bit quiet i) (le16 b (T-at + 2 * i)) 
 unfoldable pub stampsGood : List ℕ → ℕ → ℕ → Bool
 stampsGood b quiet clock = eqb (orOf (stampFaultAt b quiet clock) 16) 0
 
--- the firm jobs: budget ≥ 1 where there is a job and 0 where there is none; ticks run: at most the budget if the job is the last runner, else below it
+-- the firm jobs: budget ≥ 1 where there is a job and 0 where there is none; ticks run: as many as a job may
 
 -- of one firm job
 abbrev pub firmFault : Bool → Bool → ℕ → ℕ → ℕ
-firmFault queued ran budget used = bitOr (cond queued (1 - budget) budget) (used - (budget - cond ran 0 1))
+firmFault queued ran budget used = bitOr (cond queued (1 - budget) budget) (used - mostRun ran budget)
 
 -- of the firm job at i
 abbrev pub firmFaultAt : List ℕ → ℕ → ℕ → ℕ → ℕ

@@ -6,7 +6,7 @@ ghost use lib.ListN.{length};
 ghost use Rattle.rules.specs.Tick.{bit};
 ghost use Rattle.state.specs.Meaning.{wrapped};
 ghost use Rattle.block.specs.Places.{block-bytes};
-ghost use Rattle.block.specs.Tests.{rowMark, firmMark, hardFault, rowsGood, ranksOnce, ranksLow, ranksBlank, stampFault, stampsGood, firmFault, firmsGood, ticketsGood, lastGood, freeGood, tableGood, jobsGood, timesGood, queueGood, restGood, imageGood};
+ghost use Rattle.block.specs.Tests.{rowMark, firmMark, mostRun, hardFault, rowsGood, ranksOnce, ranksLow, ranksBlank, stampFault, stampsGood, firmFault, firmsGood, ticketsGood, lastGood, freeGood, tableGood, jobsGood, timesGood, queueGood, restGood, imageGood};
 use crate::places;
 use crate::words;
 
@@ -115,6 +115,13 @@ fn pick(b: bool, x: u16, y: u16) -> u16
     if b { x } else { y }
 }
 
+// The ticks that a job may have run.
+fn most_run(ran: bool, budget: u16) -> u16
+    ensures { λ r. ⌜ r ≡ mostRun ran budget ⌝ }
+{
+    over(budget, pick(ran, 0, 1))
+}
+
 fn hard_fault(live: bool, open: bool, ran: bool, c: u16, d: u16, t: u16, u: u16, run: u16) -> u16
     ensures { λ r. ⌜ r ≡ hardFault live «open» ran c d t u run ⌝ }
 {
@@ -122,7 +129,7 @@ fn hard_fault(live: bool, open: bool, ran: bool, c: u16, d: u16, t: u16, u: u16,
         | over(d, t)
         | over(u, over(d, c))
         | pick(live, over(1, c), t)
-        | over(run, pick(open, over(c, pick(ran, 0, 1)), 0))
+        | over(run, pick(open, most_run(ran, c), 0))
 }
 
 fn rows_good(b: &[u8], live: u16, open: u16, ran: u16) -> bool
@@ -226,7 +233,7 @@ fn stamps_good(b: &[u8], quiet: u16, clock: u32) -> bool
 fn firm_fault(queued: bool, ran: bool, budget: u16, used: u16) -> u16
     ensures { λ r. ⌜ r ≡ firmFault queued ran budget used ⌝ }
 {
-    pick(queued, over(1, budget), budget) | over(used, over(budget, pick(ran, 0, 1)))
+    pick(queued, over(1, budget), budget) | over(used, most_run(ran, budget))
 }
 
 fn firms_good(b: &[u8], queued: u16, ran: u16) -> bool

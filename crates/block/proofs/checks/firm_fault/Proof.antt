@@ -9,19 +9,15 @@ over-requires c κs = search needs
 pick-requires : tie.Need-pick-requires
 pick-requires c κs = search needs
 
-pick-requires-2 : tie.Need-pick-requires-2
-pick-requires-2 c κs = search needs
+most-run-requires : tie.Need-most-run-requires
+most-run-requires c κs = search needs
 
 over-requires-2 : tie.Need-over-requires-2
 over-requires-2 c κs = search needs
 
-over-requires-3 : tie.Need-over-requires-3
-over-requires-3 c κs = search needs
-
 returns : tie.Need-returns
-returns c = rw (c .over3 .ensures, c .before .over2 .ensures, c .before .before .pick2 .ensures, c .before .before .before .pick .ensures, c .before .before .before .before .over .ensures)
+returns c = rw (c .over2 .ensures, c .before .most-run .ensures, c .before .before .pick .ensures, c .before .before .before .over .ensures)
 
 pub firm-fault-spec : {M : Type 1} → statement M
 firm-fault-spec =
-    tie.close
-    (tie.spec over-requires pick-requires pick-requires-2 over-requires-2 over-requires-3 returns)
+    tie.close (tie.spec over-requires pick-requires most-run-requires over-requires-2 returns)

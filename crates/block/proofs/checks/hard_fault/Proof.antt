@@ -22,32 +22,28 @@ over-requires-5 c κs = search needs
 pick-requires : tie.Need-pick-requires
 pick-requires c κs = search needs
 
+most-run-requires : tie.Need-most-run-requires
+most-run-requires c κs = search needs
+
 pick-requires-2 : tie.Need-pick-requires-2
 pick-requires-2 c κs = search needs
 
 over-requires-6 : tie.Need-over-requires-6
 over-requires-6 c κs = search needs
 
-pick-requires-3 : tie.Need-pick-requires-3
-pick-requires-3 c κs = search needs
-
-over-requires-7 : tie.Need-over-requires-7
-over-requires-7 c κs = search needs
-
 returns : tie.Need-returns
 unfolding hardFault
 returns c =
     rw (
-      c .over7 .ensures,
-      c .before .pick3 .ensures,
-      c .before .before .over6 .ensures,
-      c .before .before .before .pick2 .ensures,
-      c .before .before .before .before .pick .ensures,
-      c .before .before .before .before .before .over5 .ensures,
-      c .before .before .before .before .before .before .over4 .ensures,
-      c .before .before .before .before .before .before .before .over3 .ensures,
-      c .before .before .before .before .before .before .before .before .over2 .ensures,
-      c .before .before .before .before .before .before .before .before .before .over .ensures,
+      c .over6 .ensures,
+      c .before .pick2 .ensures,
+      c .before .before .most-run .ensures,
+      c .before .before .before .pick .ensures,
+      c .before .before .before .before .over5 .ensures,
+      c .before .before .before .before .before .over4 .ensures,
+      c .before .before .before .before .before .before .over3 .ensures,
+      c .before .before .before .before .before .before .before .over2 .ensures,
+      c .before .before .before .before .before .before .before .before .over .ensures,
     )
 
 pub hard-fault-spec : {M : Type 1} → statement M
@@ -60,8 +56,7 @@ hard-fault-spec =
     over-requires-4
     over-requires-5
     pick-requires
+    most-run-requires
     pick-requires-2
     over-requires-6
-    pick-requires-3
-    over-requires-7
     returns)
