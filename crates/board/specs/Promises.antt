@@ -106,7 +106,7 @@ TableNumber refusal = (refusal ≡ 0) ⊎ ((refusal ≡ 10) ⊎ ((refusal ≡ 11
 abbrev pub TableNumbers : Type 0
 TableNumbers = (b out : List ℕ) → Bytes b → TableNumber (tableBlock b out .answer .refusal)
 
--- PLANNING, where 6 to 10 refuse a row: its number, and the part of the file that the rules show
+-- PLANNING, where 6 to 10 refuse a row: the number, the row, and the part of the file that the rules show
 abbrev pub RowNamed : Type 0
 RowNamed = (b file : List ℕ) → length b ≡ block-bytes → (rs : List Row) → scan 16 0 file ≡ whole rs → (x : Refused) → plan rs ≡ unplanned x
     → (from size : ℕ) → read file ≡ unread (x .why) from size

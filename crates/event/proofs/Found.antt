@@ -28,7 +28,7 @@ module _ (s : List ℕ) (here : 1 ≤ length s) (value : Option ℕ) (known : va
   unfolding readEvent
   bad-read at e =
       let bad = bad-is false s (eventLength (byte s 0)) (ap (λ (v : Option ℕ). fieldCheck v false s) (sym known) ∙ e) in
-      simp (not-end s here, bad .fault-is, bad .number-is, bad .size-is)
+      simp (not-end s here, bad .fault-is) (λ i. EventRead.Refused (bad .number-is i) at (bad .size-is i))
 
   -- of a whole field: its size, that it fits, and the event
   whole : {size : ℕ} → fieldCheck value false s ≡ FieldCheck.Whole size → IsWhole (eventLength (byte s 0)) false s size

@@ -80,7 +80,7 @@ module _ (full : Bool) (s : List ℕ) where
   unfolding nextField
   bad-found e =
       let bad = bad-is (isRow s && full) s (tableLength (byte s 0)) e in
-      simp (bad .fault-is, bad .number-is, bad .size-is)
+      simp (bad .fault-is) (λ i. TableField.Bad (bad .number-is i) (bad .size-is i))
 
   pub row-found : {size : ℕ} → fieldCheck (tableLength (byte s 0)) (isRow s && full) s ≡ FieldCheck.Whole size → byte s 0 ≡ rowTag → TableField.Row size ≡ nextField full s
   unfolding nextField
