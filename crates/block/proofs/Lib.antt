@@ -1,4 +1,5 @@
 pub mod Entered
+pub mod Fields
 pub mod Stands
 pub mod Forms
 pub mod Arrays

@@ -1,6 +1,7 @@
 -- `checks::image_good` meets its contract: each way out is a case of the definition. Assumes nothing.
 use borrow.Author.Tests.{le-ltb, lt-ltb}
 use Rattle.block.specs.Tests.{imageGood}
+use Rattle.block.proofs.Fields.{image-tested}
 use borrow.Author.Needs.{needs}
 use Rattle.block.proofs.checks.image_good.Statement.{statement}
 use Rattle.block.proofs.checks.image_good.Tie as tie
@@ -50,23 +51,14 @@ rest-good-requires : tie.Need-rest-good-requires
 rest-good-requires c κs = search needs
 
 returns-3 : tie.Need-returns-3
-unfolding imageGood
 returns-3 c =
-    let few = c .before .before .before .before .before .before .before .before in
+    let live = c .before .before .before .before .before in
+    let last = live .before in
+    let few = last .before .before in
     let some = few .before .before .before in
-    rw (
-      c .rest-good .ensures,
-      c .before .queue-good .ensures,
-      c .before .before .times-good .ensures,
-      c .before .before .before .jobs-good .ensures,
-      c .before .before .before .before .table-good .ensures,
-      c .before .before .before .before .before .known-rows .ensures,
-      ← c .before .before .before .before .before .before .size3 .ensures .0,
-      ← some .before .size .ensures .0,
-      le-ltb _ _ (some .if1 .left),
-      ← few .before .size2 .ensures .0,
-      le-ltb _ _ (few .if2 .left),
-    )
+    image-tested (some .before .before .before .before .args .b .now) (some .before .size .ensures .0) (some .if1 .left) (few .before .size2 .ensures .0) (few .if2 .left)
+    (last .size3 .ensures .0) (live .known-rows .ensures) (c .before .before .before .before .table-good .ensures) (c .before .before .before .jobs-good .ensures)
+    (c .before .before .times-good .ensures) (c .before .queue-good .ensures) (c .rest-good .ensures)
 
 pub image-good-spec : {M : Type 1} → statement M
 image-good-spec =

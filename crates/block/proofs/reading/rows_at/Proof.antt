@@ -1,4 +1,5 @@
 -- `reading::rows_at` meets its contract: each field is read at its place. Assumes nothing.
+use Rattle.block.proofs.Fields.{rows-read}
 use borrow.Author.Needs.{needs}
 use Rattle.block.proofs.reading.rows_at.Statement.{statement}
 use Rattle.block.proofs.reading.rows_at.Tie as tie
@@ -45,7 +46,8 @@ returns c =
     let us = ranks .before .before .before in
     let ts = us .before .before .before in
     let ds = ts .before .before .before in
-    rw (c .size .ensures .0, ranks .get8s .ensures, us .get16s4 .ensures, ts .get16s3 .ensures, ds .get16s2 .ensures, ds .before .before .before .get16s .ensures)
+    let cs = ds .before .before .before in
+    rows-read (cs .before .before .before .args .b .now) (c .size .ensures .0) (cs .get16s .ensures) (ds .get16s2 .ensures) (ts .get16s3 .ensures) (us .get16s4 .ensures) (ranks .get8s .ensures)
 
 pub rows-at-spec : {M : Type 1} → statement M
 rows-at-spec =

@@ -1,4 +1,5 @@
 -- `reading::state_at` meets its contract: each field is read at its place. Assumes nothing.
+use Rattle.block.proofs.Fields.{state-read}
 use borrow.Author.Needs.{needs}
 use Rattle.block.proofs.reading.state_at.Statement.{statement}
 use Rattle.block.proofs.reading.state_at.Tie as tie
@@ -64,19 +65,9 @@ returns c =
     let useds = tickets .before .before .before in
     let budgets = useds .before .before .before in
     let stamps = budgets .before .before .before in
-    rw (
-      c .size2 .ensures .0,
-      c .before .before .size .ensures .0,
-      marks .get162 .ensures,
-      marks .before .get16 .ensures,
-      marks .before .before .get322 .ensures,
-      marks .before .before .before .get32 .ensures,
-      tickets .get32s2 .ensures,
-      useds .get16s3 .ensures,
-      budgets .get16s2 .ensures,
-      stamps .get32s .ensures,
-      stamps .before .before .before .get16s .ensures,
-    )
+    let runs = stamps .before .before .before in
+    state-read (runs .before .before .before .args .b .now) (marks .before .before .before .get32 .ensures) (marks .before .before .get322 .ensures) (marks .before .get16 .ensures) (marks .get162 .ensures)
+    (c .before .before .size .ensures .0) (c .size2 .ensures .0) (runs .get16s .ensures) (stamps .get32s .ensures) (budgets .get16s2 .ensures) (useds .get16s3 .ensures) (tickets .get32s2 .ensures)
 
 pub state-at-spec : {M : Type 1} → statement M
 state-at-spec =
