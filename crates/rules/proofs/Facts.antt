@@ -11,10 +11,10 @@ use Rattle.rules.specs.Station.{Firm, Last, Slot, Station, closed, firm-
 use Rattle.rules.specs.Tick.{lastTo}
 use Rattle.rules.proofs.Walks.{Holds}
 
--- the row passes 6 to 8, U ≤ D − C, and the age is held
+-- the row passes 6 to 8, U ≤ D − C − M, and the age is held
 pub record Good (s : Slot) : Type 0 where
   pub C-pos : 1 ≤ s .row .C
-  pub U-le : s .U + s .row .C ≤ s .row .D
+  pub U-le : s .U + s .row .C + s .row .M ≤ s .row .D
   pub D-le : s .row .D ≤ s .row .T
   pub age-le : s .age ≤ hold (s .row)
 

@@ -33,16 +33,17 @@ record Started (dem b : ℕ → ℕ) (i : ℕ) (ss : List Slot) : Type 0 where
 fresh-started : (above : List Row) (i : ℕ) (dem b : ℕ → ℕ) → ((w : ℕ) → dem w ≤ total (λ j. most j w) above) → ((w : ℕ) → b w ≡ total (λ j. most j w) above)
     → (ps : List PlannedRow) → All RowOk (rowsIn ps) → Bounds above ps → Started dem b i (map freshSlot ps)
 fresh-started above i dem b hd hb [] ok s = record { good = tt; runs = tt; plan = tt; safe = tt }
-fresh-started above i dem b hd hb (p ∷ ps) (ok, oks) (S, Ss) =
-    let G = fresh-good p ok (omega (arith, S .solves)) (S .in-D) in
+fresh-started above i dem b hd hb (p ∷ ps) (ok, oks) (S, l, Ss) =
+    let in-D : p .R ≤ deadline (p .row) = omega arith in
+    let G = fresh-good p ok (omega (arith, S .solves)) in-D in
     let rest = fresh-started (p .row ∷ above) (suc i) (λ w. dem w + demand entire (freshSlot p) w) (λ w. b w + most (p .row) w)
     (λ w. omega (arith, hd w, most-closed (freshSlot p) G w)) (λ w. omega (arith, hb w)) ps oks Ss in
     record {
       good = (G, rest .good);
       runs = (record { others = λ q r e. absurd (closed-not-open e); at-most = λ r e. absurd (closed-not-open e) }, rest .runs);
-      plan = (rw (fresh-time p (S .in-D)) (omega (arith, hb (p .R), S .solves)), rest .plan);
+      plan = (rw (fresh-time p in-D) (omega (arith, hb (p .R), S .solves)), rest .plan);
       safe = (
-        record { if-ran = λ q. absurd (false≢true q); if-low = λ q. record { v = p .R; within = omega (arith, S .in-D); enough = omega (arith, hd (p .R), S .solves) }; if-up = λ q. absurd (false≢true q) },
+        record { if-ran = λ q. absurd (false≢true q); if-low = λ q. record { v = p .R; within = omega arith; enough = omega (arith, hd (p .R), S .solves) }; if-up = λ q. absurd (false≢true q) },
         rest .safe,
       );
     }
@@ -56,7 +57,7 @@ pub fresh-rows : (ps : List PlannedRow) → rowsOf (map freshSlot ps) ≡ rowsIn
 fresh-rows [] = refl
 fresh-rows (p ∷ ps) = ap (λ rs. p .row ∷ rs) (fresh-rows ps)
 
--- what is said of a plan's rows that passed 6 to 10 is said of its fresh station
+-- what is said of a plan's rows that passed 6 to 10 and 22 is said of its fresh station
 pub on-fresh : (P : Station → Type 0) (rs : List Row) → ((ps : List PlannedRow) → Planned rs ps → P (freshStation ps)) → OnFresh P (plan rs)
 on-fresh P rs h = go (plan rs) (on-plan rs)
   where

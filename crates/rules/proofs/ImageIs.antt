@@ -25,7 +25,7 @@ use Rattle.rules.proofs.Kept.{fresh-kept}
 use Rattle.rules.proofs.Walks.{all-imp, every-iff}
 
 abbrev Promotable : Slot → Type 0
-Promotable s = s .U + s .row .C ≤ s .row .D
+Promotable s = s .U + s .row .C + s .row .M ≤ s .row .D
 
 -- what the tests say, joined as they are; the last one as it is tested
 abbrev Tested : Station → Type 0
@@ -42,7 +42,7 @@ tested-iff : (st : Station) → (isImage st ≡ true) ↔ Tested st
 unfolding isImage
 tested-iff st =
     let table = isNone-iff (tableFault (rowsOf (st .slots))) in
-    let times = every-iff promotable Promotable (λ s. le-iff (s .U + s .row .C) (s .row .D)) 0 (st .slots) in
+    let times = every-iff promotable Promotable (λ s. le-iff (s .U + s .row .C + s .row .M) (s .row .D)) 0 (st .slots) in
     let runs = runs-iff (lastAt (st .last)) 0 (st .slots) in
     let few = le-iff (length (st .firms)) 8 in
     let firms = every-iff (λ f. firmOk (lastTo (st .last) (f .ticket)) f) (FirmFits (st .last)) (firm-iff (st .last)) 0 (st .firms) in

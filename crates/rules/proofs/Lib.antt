@@ -8,6 +8,7 @@ pub mod Plans
 pub mod Fields
 pub mod Scan
 pub mod Files
+pub mod Shown
 pub mod Tables
 pub mod Facts
 pub mod Demand

@@ -7,7 +7,7 @@ use Rattle.rules.specs.Tick.{tick}
 use Rattle.rules.specs.Offer.{offer}
 use Rattle.rules.specs.Events.{readEvent}
 use Rattle.rules.specs.Image.{isImage}
-use Rattle.rules.specs.Figures.{AllHold, Figures, Listings, figures, found}
+use Rattle.rules.specs.Figures.{AllHold, Figures, Listings, figures, found, marginFigures}
 use Rattle.rules.specs.Examples.{EveryRefusal, refusals}
 
 -- a table holds where the column found is the column given
@@ -20,10 +20,15 @@ pub station-figures : AllHold figures
 unfolding plan planRows tick offer
 station-figures = by-columns figures refl
 
--- the listing, and the offers on the empty table
+-- A with margins
+pub margin-figures : AllHold marginFigures
+unfolding plan planRows
+margin-figures = by-columns marginFigures refl
+
+-- the listing, the offers on the empty table, and a table with margins
 pub whole-listing : Listings
 unfolding plan planRows tick offer scan read readEvent
-whole-listing = record { plan-A = refl; run-A = refl; run-empty = refl; run-ranks = refl }
+whole-listing = record { plan-A = refl; run-A = refl; run-empty = refl; run-ranks = refl; plan-M = refl; run-M = refl }
 
 -- an example of every refusal, and of the order in which they are asked
 pub every-refusal : EveryRefusal

@@ -1,10 +1,10 @@
--- Document 01, "Response bound and promotion": f, the iteration, R, the rounds and U; check 10. Assumes nothing.
+-- Document 01, "Response bound and promotion": f, the iteration, R, the rounds and U; checks 10 and 22. Assumes nothing.
 use Prim.Native.Nat.{ℕ, zero, suc, _+_, _-_, _*_, _/_}
 use mathlib.Core.Bool.{cond}
 use mathlib.Core.List.{List, [], _∷_}
 use lib.Dec.{ltb, eqb}
 use Rattle.rules.specs.Lists.{total, unless}
-use Rattle.rules.specs.Refusals.{passes-D, Refused, atRow}
+use Rattle.rules.specs.Refusals.{passes-D, R-M-over-D, Refused, atRow}
 use Rattle.rules.specs.Rows.{Row, tableFault}
 
 -- w / T, rounded up
@@ -38,7 +38,7 @@ response above r = iterate above r (suc (r .D - r .C)) 0 (r .C)
 
 -- the promotion time of a row whose bound is R
 abbrev pub promotion : Row → ℕ → ℕ
-promotion r R = r .D - R
+promotion r R = r .D - R - r .M
 
 -- a row with its bound
 pub record PlannedRow : Type 0 where
@@ -51,17 +51,22 @@ pub data Plan : Type 0 where
   planned : List PlannedRow → Plan
   unplanned : Refused → Plan
 
--- a row's bound before the plan of the rows below it
+-- a planned row before the plan of the rows below it
+abbrev pub onto : PlannedRow → Plan → Plan
+onto p (planned ps) = planned (p ∷ ps)
+onto p (unplanned x) = unplanned x
+
+-- a row's bound before the plan of the rows below it: 10, then 22, R + M > D
 abbrev pub withRow : Row → ℕ → Bound → Plan → Plan
 withRow r i none-to-D p = unplanned (atRow passes-D i)
-withRow r i (bound R rounds) (unplanned x) = unplanned x
-withRow r i (bound R rounds) (planned ps) = planned (record { row = r; R = R; rounds = rounds } ∷ ps)
+withRow r i (bound R rounds) p =
+    cond (ltb (r .D) (R + r .M)) (unplanned (atRow R-M-over-D i)) (onto (record { row = r; R = R; rounds = rounds }) p)
 
--- rows in order, 10 in each: i the position of the next row, above the rows before it, the nearest first
+-- rows in order, 10 and 22 in each: i the position of the next row, above the rows before it, the nearest first
 unfoldable pub planRows : List Row → ℕ → List Row → Plan
 planRows above i [] = planned []
 planRows above i (r ∷ rs) = withRow r i (response above r) (planRows (r ∷ above) (suc i) rs)
 
--- planning: 6 to 9, rows in order; then 10, rows in order
+-- planning: 6 to 9, rows in order; then 10 and 22, rows in order
 unfoldable pub plan : List Row → Plan
 plan rs = unless (tableFault rs) unplanned (planRows [] 0 rs)

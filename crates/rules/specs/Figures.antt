@@ -45,7 +45,7 @@ pub data Found : Type 0 where
   shows : (number from size : ℕ) (bytes : List ℕ) → Found
   passes : Found
 
--- 6 to 10, 12 and 14 are about a row
+-- 6 to 10, 12, 14 and 22 are about a row
 
 -- a refusal that names its row
 abbrev pub rowRefusal : Refused → Found
@@ -114,9 +114,13 @@ AllHold table = All (λ line. found (line .0) ≡ line .1) table
 
 -- THE MARKED FIGURES
 
--- a row of these numbers
+-- a row of these numbers, with no margin
 abbrev pub row : ℕ → ℕ → ℕ → ℕ → Row
-row C D T rank = record { C = C; D = D; T = T; rank = rank }
+row C D T rank = record { C = C; D = D; T = T; rank = rank; M = 0 }
+
+-- the row with a margin
+abbrev pub withMargin : ℕ → Row → Row
+withMargin M r = record { C = r .C; D = r .D; T = r .T; rank = r .rank; M = M }
 
 -- table A
 abbrev pub tableA : List Row
@@ -152,6 +156,15 @@ figures =
     ∷ (call-on atClock2 (offer-call 3 4), refuses 18 0)
     ∷ (call-on atClock2 (offer-call 2 3), ticket 0)
     ∷ (call-on atClock2 (offer-call 3 5), refuses 18 0)
+    ∷ []
+
+-- not document 01's: A with margins, up to D − R and one above it
+abbrev pub marginFigures : Figures
+marginFigures =
+    (bound-of (withMargin 1 (row 2 6 8 0) ∷ withMargin 5 (row 5 12 12 1) ∷ []) 1, R-and-U 2 3)
+    ∷ (bound-of (withMargin 1 (row 2 6 8 0) ∷ withMargin 5 (row 5 12 12 1) ∷ []) 2, R-and-U 7 0)
+    ∷ (bound-of (withMargin 4 (row 2 6 8 0) ∷ withMargin 6 (row 5 12 12 1) ∷ []) 2, refuses 22 2)
+    ∷ (bound-of (withMargin 5 (row 2 6 8 0) ∷ withMargin 6 (row 5 12 12 1) ∷ []) 2, refuses 22 1)
     ∷ []
 
 -- THE LISTING
@@ -231,9 +244,31 @@ emptyListing =
 abbrev pub rankListing : Listing
 rankListing = (0x21 ∷ 0x00 ∷ 0x03 ∷ 0x00 ∷ 0x03 ∷ 0x00 ∷ [], ran 0 (hard 1 lower) nothing) ∷ []
 
--- what is printed of A, of the empty table, and of ranks against the order of rows
+-- not document 01's: the file of A with the margins 1 and 5
+abbrev pub fileM : List ℕ
+fileM =
+    (0x02 ∷ 0x00 ∷ 0x09 ∷ 0x00 ∷ 0x02 ∷ 0x00 ∷ 0x06 ∷ 0x00 ∷ 0x08 ∷ 0x00 ∷ 0x00 ∷ 0x01 ∷ [])
+    ++ (0x02 ∷ 0x00 ∷ 0x09 ∷ 0x00 ∷ 0x05 ∷ 0x00 ∷ 0x0c ∷ 0x00 ∷ 0x0c ∷ 0x01 ∷ 0x00 ∷ 0x05 ∷ [])
+    ++ (0x0f ∷ 0x00 ∷ 0x00 ∷ [])
+
+-- row 2 is promoted at once, row 1 at 3; the one has run its C before tick 7 = 12 − 5, the other before 5 = 6 − 1
+abbrev pub marginListing : Listing
+marginListing =
+    (0x21 ∷ 0x00 ∷ 0x03 ∷ 0x00 ∷ 0x03 ∷ 0x02 ∷ [], ran 0 (hard 1 upper) nothing)
+    ∷ (0x21 ∷ 0x00 ∷ 0x03 ∷ 0x00 ∷ 0x00 ∷ 0x02 ∷ [], ran 1 (hard 1 upper) nothing)
+    ∷ (0x21 ∷ 0x00 ∷ 0x03 ∷ 0x00 ∷ 0x00 ∷ 0x02 ∷ [], ran 2 (hard 1 upper) nothing)
+    ∷ (0x21 ∷ 0x00 ∷ 0x03 ∷ 0x00 ∷ 0x00 ∷ 0x02 ∷ [], ran 3 (hard 0 upper) nothing)
+    ∷ (0x21 ∷ 0x00 ∷ 0x03 ∷ 0x00 ∷ 0x00 ∷ 0x02 ∷ [], ran 4 (hard 0 upper) nothing)
+    ∷ (0x21 ∷ 0x00 ∷ 0x03 ∷ 0x00 ∷ 0x00 ∷ 0x02 ∷ [], ran 5 (hard 1 upper) (hard-job 0 spent))
+    ∷ (0x21 ∷ 0x00 ∷ 0x03 ∷ 0x00 ∷ 0x00 ∷ 0x02 ∷ [], ran 6 (hard 1 upper) nothing)
+    ∷ (0x21 ∷ 0x00 ∷ 0x03 ∷ 0x00 ∷ 0x00 ∷ 0x02 ∷ [], ran 7 soft (hard-job 1 spent))
+    ∷ []
+
+-- what is printed of A, of the empty table, of ranks against the order of rows, and of margins
 pub record Listings : Type 0 where
   pub plan-A : Plans ((1 ∷ 2 ∷ 6 ∷ 8 ∷ 2 ∷ 4 ∷ 1 ∷ []) ∷ (2 ∷ 5 ∷ 12 ∷ 12 ∷ 7 ∷ 5 ∷ 2 ∷ []) ∷ []) (read fileA)
   pub run-A : Runs listing (read fileA)
   pub run-empty : Runs emptyListing (read (0x0f ∷ 0x00 ∷ 0x00 ∷ []))
   pub run-ranks : Runs rankListing (read (fileBytes (row 1 4 4 1 ∷ row 1 4 4 0 ∷ [])))
+  pub plan-M : Plans ((1 ∷ 2 ∷ 6 ∷ 8 ∷ 2 ∷ 3 ∷ 1 ∷ []) ∷ (2 ∷ 5 ∷ 12 ∷ 12 ∷ 7 ∷ 0 ∷ 2 ∷ []) ∷ []) (read fileM)
+  pub run-M : Runs marginListing (read fileM)

@@ -16,9 +16,9 @@ narrow st =
     && every (λ k s. ltb (s .row .T) (2 ^ 16) && leb (s .age) (hold (s .row))) 0 (st .slots)
     && every (λ k f. ltb (f .budget) (2 ^ 16)) 0 (st .firms)
 
--- each U ≤ D − C
+-- each U ≤ D − C − M
 abbrev pub promotable : Slot → Bool
-promotable s = leb (s .U + s .row .C) (s .row .D)
+promotable s = leb (s .U + s .row .C + s .row .M) (s .row .D)
 
 -- ticks run ≤ C, and not fully run unless the job is the last runner
 abbrev pub runOk : Bool → ℕ → Job → Bool
@@ -46,7 +46,7 @@ lastOk (row-at i) ss fs = any (λ k s. eqb k i && hasRun (s .job)) 0 ss
 lastOk (firm-of t) ss [] = false
 lastOk (firm-of t) ss (f ∷ fs) = eqb (f .ticket) t && leb 1 (f .run)
 
--- the table passes 6 to 9; 10 isn't run again
+-- the table passes 6 to 9; 10 and 22 aren't run again
 unfoldable pub isImage : Station → Bool
 isImage st =
     narrow st

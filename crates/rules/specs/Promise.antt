@@ -1,7 +1,7 @@
 -- The promises over calls, as types: demand 3; done is told; true time; that the second half of refusal 14 is never met. Assumes nothing.
 use Prim.Native.Nat.{ℕ, _+_, _-_, _%_, _^_, _≤_, min}
 use mathlib.Core.Bool.{Bool, true, false, cond, _&&_}
-use mathlib.Core.List.{List, [], _∷_}
+use mathlib.Core.List.{List, _∷_}
 use mathlib.Core.Logic.{_⊎_}
 use mathlib.Core.Option.{Option, none, some}
 use mathlib.Core.Path.{_≡_}
@@ -11,7 +11,7 @@ use Rattle.rules.specs.Rows.{Row, deadline}
 use Rattle.rules.specs.Station.{closed, Slot, Station, hold, rested, isOpen, promoted}
 use Rattle.rules.specs.Tick.{done, closedAs, tick, hard-job, firm-job, Answer, bit, close, release, Ticked, ticked, no-tick}
 use Rattle.rules.specs.Offer.{Offered, accepted, no-offer, offer}
-use Rattle.rules.specs.Calls.{Call, tickCall, Reply, answered, replies, after, count, ticks, namesRow, namesTicket, Reported, acceptances, returns, releases, lastRelease}
+use Rattle.rules.specs.Calls.{Call, tickCall, answered, replies, after, count, ticks, namesRow, namesTicket, Reported, acceptances, returns, releases, lastRelease}
 
 -- what is said of an accepted tick: the station after it and its answer
 abbrev pub OnTicked : (Station → Answer → Type 0) → Ticked → Type 0
@@ -24,9 +24,9 @@ OnOffered P (accepted st t) = P st t
 OnOffered P (no-offer why) = Unit {0}
 
 -- DEMAND 3, a hard job. A tick released the row r at position k and gave the answer x; st is the station after it.
--- Whatever calls follow, and so also those up to the D-th tick and no further:
+-- Whatever calls follow, and so also those up to that deadline and no further:
 pub record HardPromise (k : ℕ) (r : Row) (st : Station) (x : Answer) : Type 0 where
-  -- when D ticks have been stepped from the release on, C of their answers have named the row, or a later one reported the job done
+  -- when D − M ticks have been stepped from the release on, C of their answers have named the row, or a later one reported the job done
   pub in-time : (later : List Call) → deadline r ≤ ticks (answered x ∷ replies st later)
       → (r .C ≤ count (namesRow k) (answered x ∷ replies st later)) ⊎ Reported (hard-job k done) (replies st later)
   -- up to the next release of the row, no more than C name it

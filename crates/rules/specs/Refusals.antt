@@ -7,6 +7,8 @@ pub data Refusal : Type 0 where
   cut unknown-tag wrong-length after-end : Refusal
   -- tables: a 17th row; 1 ≤ C ≤ D ≤ T; the ranks; the iteration passes D
   row-17 C-zero C-over-D D-over-T bad-rank passes-D : Refusal
+  -- document 02, margins: tag 02 with M = 0; R + M > D
+  M-zero R-M-over-D : Refusal
   -- the state block
   not-image : Refusal
   -- ticks: a released row above n; done, and no job ran; a released row not rested, or still open
@@ -38,6 +40,8 @@ number queue-full = 17
 number room-short = 18
 number small-output = 19
 number unknown-flag = 20
+number M-zero = 21
+number R-M-over-D = 22
 
 -- a refusal, and the position of the row that it is about, counted from 0 (0 where it is about none)
 pub record Refused : Type 0 where

@@ -1,5 +1,5 @@
 -- Document 01, "The hard table": a row, and the checks 6 to 9. Rows are counted from 0 here: row 1 stands at position 0. Assumes nothing.
-use Prim.Native.Nat.{ℕ, suc}
+use Prim.Native.Nat.{ℕ, suc, _-_}
 use mathlib.Core.Bool.{Bool, cond, _||_}
 use mathlib.Core.List.{List, [], _∷_}
 use mathlib.Core.Option.{Option, none, some, Option·map}
@@ -8,16 +8,17 @@ use lib.ListN.{length}
 use Rattle.rules.specs.Lists.{any, orElse}
 use Rattle.rules.specs.Refusals.{Refusal, C-zero, C-over-D, D-over-T, bad-rank, Refused, atRow}
 
--- C, D and T in ticks, and the lower rank
+-- C, D and T in ticks, the lower rank, and the margin M in ticks
 pub record Row : Type 0 where
   pub C : ℕ
   pub D : ℕ
   pub T : ℕ
   pub rank : ℕ
+  pub M : ℕ
 
--- the deadline of the row's jobs, in ticks from the release
+-- the deadline of the row's jobs less the margin, in ticks from the release
 abbrev pub deadline : Row → ℕ
-deadline r = r .D
+deadline r = r .D - r .M
 
 -- a row of this rank is among the earlier ones
 abbrev pub used : ℕ → List Row → Bool

@@ -1,15 +1,17 @@
--- The promises about tables and their files, as types: what checks 1 to 10 come to, the least solution, the round trip. Assumes nothing.
+-- The promises about tables and their files, as types: what checks 1 to 10, 21 and 22 come to, the least solution, the round trip. Assumes nothing.
 use Prim.Native.Nat.{ℕ, zero, suc, _+_, _-_, _^_, _≤_, _<_}
 use mathlib.Core.Bool.{cond}
 use mathlib.Core.List.{List, [], _∷_, _++_, map}
 use mathlib.Core.Logic.{_↔_}
+use mathlib.Core.Option.{some}
 use mathlib.Core.Path.{_≡_}
 use lib.Dec.{eqb}
-use lib.ListN.{length, take, drop}
+use lib.ListN.{getElem?, length, take, drop}
 use Rattle.rules.specs.Lists.{All, total}
+use Rattle.rules.specs.Refusals.{Refused}
 use Rattle.rules.specs.Rows.{Row}
-use Rattle.rules.specs.Bound.{f, Bound, bound, none-to-D, response, PlannedRow, planned, plan}
-use Rattle.rules.specs.File.{read-as, read, fileBytes, written, write}
+use Rattle.rules.specs.Bound.{f, Bound, bound, none-to-D, response, PlannedRow, planned, plan, unplanned}
+use Rattle.rules.specs.File.{Field, fieldBytes, fileBytes, planFields, read, read-as, scan, unread, whole, write, written}
 
 -- 1 ≤ C ≤ D ≤ T
 pub record RowOk (r : Row) : Type 0 where
@@ -50,10 +52,14 @@ abbrev pub BoundIs : List Row → Row → Bound → Type 0
 BoundIs above r (bound R rounds) = Solved above r R rounds
 BoundIs above r none-to-D = Unsolvable above r
 
--- each row of the plan has its bound, given the rows above it, the nearest first
+-- the bound leaves the margin: R + M ≤ D
+abbrev pub LeavesMargin : PlannedRow → Type 0
+LeavesMargin p = p .R + p .row .M ≤ p .row .D
+
+-- each row of the plan has its bound, given the rows above it, the nearest first, and it leaves the margin
 abbrev pub Bounds : List Row → List PlannedRow → Type 0
 Bounds above [] = Unit {0}
-Bounds above (p ∷ ps) = Solved above (p .row) (p .R) (p .rounds) × Bounds (p .row ∷ above) ps
+Bounds above (p ∷ ps) = Solved above (p .row) (p .R) (p .rounds) × LeavesMargin p × Bounds (p .row ∷ above) ps
 
 -- what document 01 requires of a table, and what it says of its plan
 pub record Planned (rs : List Row) (ps : List PlannedRow) : Type 0 where
@@ -68,12 +74,13 @@ pub record RowNarrow (r : Row) : Type 0 where
   pub D-lt : r .D < 2 ^ 16
   pub T-lt : r .T < 2 ^ 16
   pub rank-lt : r .rank < 2 ^ 8
+  pub M-lt : r .M < 2 ^ 16
 
 -- a file is a list of bytes
 abbrev pub Bytes : List ℕ → Type 0
 Bytes s = All (λ b. b < 2 ^ 8) s
 
--- a file's bytes are the writer's for these rows, at most 16, which pass 6 to 10
+-- a file's bytes are the writer's for these rows, at most 16, which pass 6 to 10 and 22
 pub record Accepted (s : List ℕ) (ps : List PlannedRow) : Type 0 where
   pub bytes-are : s ≡ fileBytes (map (λ p. p .row) ps)
   pub few : length ps ≤ 16
@@ -83,12 +90,15 @@ pub record Accepted (s : List ℕ) (ps : List PlannedRow) : Type 0 where
 pub record TablePromises : Type 0 where
   -- the bound of a row is the least solution, and 10 is given exactly when there is none up to D
   pub bounds-least : (above : List Row) (r : Row) → All RowOk (r ∷ above) → BoundIs above r (response above r)
-  -- a table is planned exactly when it passes 6 to 10
+  -- a table is planned exactly when it passes 6 to 10 and 22
   pub planned-iff : (rs : List Row) (ps : List PlannedRow) → (plan rs ≡ planned ps) ↔ Planned rs ps
   -- the bounds of the first rows depend on nothing below them
   pub nothing-below : (rs below : List Row) (ps qs : List PlannedRow) → plan rs ≡ planned ps → plan (rs ++ below) ≡ planned qs → take (length rs) qs ≡ ps
-  -- a file is accepted exactly when checks 1 to 10 pass
+  -- a file is accepted exactly when checks 1 to 10, 21 and 22 pass
   pub read-iff : (s : List ℕ) → Bytes s → (ps : List PlannedRow) → (read s ≡ read-as ps) ↔ Accepted s ps
+  -- a row that is refused, with 6 to 10, 21 or 22, is one of the file's, and what is shown is the bytes of its field
+  pub shows-row : (s : List ℕ) → Bytes s → (fs : List Field) → scan 16 0 s ≡ whole fs → (x : Refused) → planFields fs ≡ unplanned x
+      → (f : Field) × (getElem? fs (x .row) ≡ some f) × (from : ℕ) × (size : ℕ) × (read s ≡ unread (x .why) from size) × (take size (drop from s) ≡ fieldBytes f)
   -- a table written and read again is the same table; what is written is bytes
   pub written-read : (rs : List Row) → All RowNarrow rs → (out : List ℕ) (n : ℕ) (after : List ℕ) → write rs out ≡ written n after
       → (ps : List PlannedRow) × (read (take n after) ≡ read-as ps) × (map (λ p. p .row) ps ≡ rs) × Bytes (take n after)
