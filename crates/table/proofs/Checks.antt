@@ -1,4 +1,4 @@
--- The checks 6 to 9 of rows, a row at a time; and what rows that pass them are. Assumes nothing.
+-- The checks 6 to 9 and 21 of rows, a row at a time; and what rows that pass them are. Assumes nothing.
 use Prim.Native.Nat.{ℕ, zero, suc, _+_, _-_, _≤_, _<_}
 use mathlib.Core.Path.{_≡_, refl, sym, ap, _∙_}
 use mathlib.Core.Bool.{Bool, true, false, cond, _||_}
@@ -7,33 +7,35 @@ use mathlib.Core.Option.{Option, none, some, Option·map}
 use native.Mathlib.Numerals.{add-one}
 use native.Mathlib.Omega.{arith}
 use lib.Dec.{leb, ltb, eqb}
-use lib.ListN.{length}
 use borrow.Author.Tests.{eqb-false, ltb-false}
 use Rattle.rules.specs.Lists.{orElse}
-use Rattle.rules.specs.Refusals.{Refusal, Refused, atRow, C-zero, C-over-D, D-over-T, bad-rank}
-use Rattle.rules.specs.Rows.{Row, used, rowFault, rowsFault, tableFault}
+use Rattle.rules.specs.Refusals.{M-zero, Refusal, Refused, atRow, C-zero, C-over-D, D-over-T, bad-rank}
+use Rattle.rules.specs.Rows.{Row, used, rowFault}
+use Rattle.rules.specs.File.{fieldsFault, tagFault, zeroMargin}
 use Rattle.rules.specs.Tables.{RowOk}
-use Rattle.table.specs.Memory.{indexed, rowAt, rowsOf, aboveOf, Sound}
-use Rattle.table.specs.Answers.{checkedOf, rowChecked}
-use Rattle.table.specs.declared.Table.{Table}
+use Rattle.table.specs.Memory.{indexed, rowAt, aboveOf, fieldAt, fieldsOf, Sound}
+use Rattle.table.specs.Answers.{checkedOf, fieldChecked}
+use Rattle.table.specs.declared.scan.FileRows.{FileRows}
 use Rattle.table.specs.declared.Checked.{Checked}
-use Rattle.table.proofs.Places.{length-indexed}
 
 -- what the checks say from the row at a position on
-abbrev pub faultFrom : Table → ℕ → Option Refused
-faultFrom tb i = rowsFault (tb .n) (aboveOf tb i) i (indexed (rowAt tb) i (tb .n - i))
+abbrev pub faultFrom : FileRows → ℕ → Option Refused
+faultFrom rows i = fieldsFault (rows .table .n) (aboveOf (rows .table) i) i (indexed (fieldAt rows) i (rows .table .n - i))
 
-pub fault-start : (tb : Table) → tableFault (rowsOf tb) ≡ faultFrom tb 0
-fault-start tb =
-    let all : length (rowsOf tb) ≡ tb .n = length-indexed (rowAt tb) 0 (tb .n) in
-    let left : tb .n ≡ tb .n - 0 = omega arith in
-    ap (λ (n : ℕ). rowsFault n [] 0 (rowsOf tb)) all ∙ ap (λ (n : ℕ). rowsFault (tb .n) [] 0 (indexed (rowAt tb) 0 n)) left
+pub fault-start : (rows : FileRows) → fieldsFault (rows .table .n) [] 0 (fieldsOf rows) ≡ faultFrom rows 0
+fault-start rows =
+    let left : rows .table .n ≡ rows .table .n - 0 = omega arith in
+    ap (λ (n : ℕ). fieldsFault (rows .table .n) [] 0 (indexed (fieldAt rows) 0 n)) left
 
-fault-next : (tb : Table) (i : ℕ) → i < tb .n → faultFrom tb i ≡ orElse (Option·map (λ why. atRow why i) (rowFault (tb .n) (aboveOf tb i) (rowAt tb i))) (faultFrom tb (i + 1))
-fault-next tb i h =
-    let left : tb .n - i ≡ suc (tb .n - suc i) = omega arith in
-    ap (λ (n : ℕ). rowsFault (tb .n) (aboveOf tb i) i (indexed (rowAt tb) i n)) left
-    ∙ ap (λ (k : ℕ). orElse (Option·map (λ why. atRow why i) (rowFault (tb .n) (aboveOf tb i) (rowAt tb i))) (faultFrom tb k)) (sym (add-one i))
+-- what they say of that row
+abbrev faultAt : FileRows → ℕ → Option Refusal
+faultAt rows i = tagFault (rows .table .n) (aboveOf (rows .table) i) (fieldAt rows i)
+
+fault-next : (rows : FileRows) (i : ℕ) → i < rows .table .n → faultFrom rows i ≡ orElse (Option·map (λ why. atRow why i) (faultAt rows i)) (faultFrom rows (i + 1))
+fault-next rows i h =
+    let left : rows .table .n - i ≡ suc (rows .table .n - suc i) = omega arith in
+    ap (λ (n : ℕ). fieldsFault (rows .table .n) (aboveOf (rows .table) i) i (indexed (fieldAt rows) i n)) left
+    ∙ ap (λ (k : ℕ). orElse (Option·map (λ why. atRow why i) (faultAt rows i)) (faultFrom rows k)) (sym (add-one i))
 
 passed-none : (o : Option Refusal) (i : ℕ) (x : Option Refused) → checkedOf (Option·map (λ why. atRow why i) o) ≡ Checked.Passed → orElse (Option·map (λ why. atRow why i) o) x ≡ x
 passed-none none i x e = refl
@@ -43,17 +45,38 @@ failed-some : (o : Option Refusal) (i k row : ℕ) (x : Option Refused) → chec
 failed-some none i k row x e = absurd (let z : _≡_ {A = ℕ} 0 1 = cc in omega arith)
 failed-some (some why) i k row x e = e
 
-module _ (tb : Table) (i : ℕ) (more : i < tb .n) where
-  pub row-passed : rowChecked tb i ≡ Checked.Passed → faultFrom tb i ≡ faultFrom tb (i + 1)
-  row-passed e = fault-next tb i more ∙ passed-none (rowFault (tb .n) (aboveOf tb i) (rowAt tb i)) i (faultFrom tb (i + 1)) e
+module _ (rows : FileRows) (i : ℕ) (more : i < rows .table .n) where
+  pub row-passed : fieldChecked rows i ≡ Checked.Passed → faultFrom rows i ≡ faultFrom rows (i + 1)
+  row-passed e = fault-next rows i more ∙ passed-none (faultAt rows i) i (faultFrom rows (i + 1)) e
 
-  pub row-failed : {k row : ℕ} → rowChecked tb i ≡ Checked.Failed k row → checkedOf (faultFrom tb i) ≡ Checked.Failed k row
-  row-failed {k} {row} e = ap checkedOf (fault-next tb i more) ∙ failed-some (rowFault (tb .n) (aboveOf tb i) (rowAt tb i)) i k row (faultFrom tb (i + 1)) e
+  pub row-failed : {k row : ℕ} → fieldChecked rows i ≡ Checked.Failed k row → checkedOf (faultFrom rows i) ≡ Checked.Failed k row
+  row-failed {k} {row} e = ap checkedOf (fault-next rows i more) ∙ failed-some (faultAt rows i) i k row (faultFrom rows (i + 1)) e
 
-pub fault-end : (tb : Table) (i : ℕ) → tb .n ≤ i → faultFrom tb i ≡ none
-fault-end tb i h =
-    let left : tb .n - i ≡ 0 = omega arith in
-    ap (λ (n : ℕ). rowsFault (tb .n) (aboveOf tb i) i (indexed (rowAt tb) i n)) left
+pub fault-end : (rows : FileRows) (i : ℕ) → rows .table .n ≤ i → faultFrom rows i ≡ none
+fault-end rows i h =
+    let left : rows .table .n - i ≡ 0 = omega arith in
+    ap (λ (n : ℕ). fieldsFault (rows .table .n) (aboveOf (rows .table) i) i (indexed (fieldAt rows) i n)) left
+
+-- 21 in a row that passes 6 to 9, and in one that does not
+module _ (o : Option Refusal) (i : ℕ) (zero-margin : Bool) where
+  abbrev withZero : Option Refused
+  withZero = Option·map (λ why. atRow why i) (orElse o (cond zero-margin (some M-zero) none))
+
+  pub zero-asked : checkedOf (Option·map (λ why. atRow why i) o) ≡ Checked.Passed → withZero ≡ Option·map (λ why. atRow why i) (cond zero-margin (some M-zero) none)
+  zero-asked e = go o e
+    where
+      go : (o : Option Refusal) → checkedOf (Option·map (λ why. atRow why i) o) ≡ Checked.Passed
+          → Option·map (λ why. atRow why i) (orElse o (cond zero-margin (some M-zero) none)) ≡ Option·map (λ why. atRow why i) (cond zero-margin (some M-zero) none)
+      go none e = refl
+      go (some why) e = absurd (let z : _≡_ {A = ℕ} 0 1 = cc in omega arith)
+
+  pub zero-not-asked : {k row : ℕ} → checkedOf (Option·map (λ why. atRow why i) o) ≡ Checked.Failed k row → checkedOf withZero ≡ Checked.Failed k row
+  zero-not-asked {k} {row} e = go o e
+    where
+      go : (o : Option Refusal) → checkedOf (Option·map (λ why. atRow why i) o) ≡ Checked.Failed k row
+          → checkedOf (Option·map (λ why. atRow why i) (orElse o (cond zero-margin (some M-zero) none))) ≡ Checked.Failed k row
+      go none e = absurd (let z : _≡_ {A = ℕ} 0 1 = cc in omega arith)
+      go (some why) e = e
 
 -- a row with no fault has 1 ≤ C ≤ D ≤ T
 tests-none : (zero-C over-D over-T rank : Bool) → cond zero-C (some C-zero) (cond over-D (some C-over-D) (cond over-T (some D-over-T) (cond rank (some bad-rank) none))) ≡ none → (zero-C ≡ false) × (over-D ≡ false) × (over-T ≡ false)
@@ -72,14 +95,20 @@ orElse-none : (o : Option Refusal) (i : ℕ) (x : Option Refused) → orElse (Op
 orElse-none none i x e = (refl, e)
 orElse-none (some why) i x e = absurd (let z : _≡_ {A = ℕ} 0 1 = cc in omega arith)
 
-none-from : (tb : Table) → faultFrom tb 0 ≡ none → (i : ℕ) → i ≤ tb .n → faultFrom tb i ≡ none
-none-from tb e zero h = e
-none-from tb e (suc i) h =
-    let at-i = sym (fault-next tb i (omega arith)) ∙ none-from tb e i (omega arith) in
-    ap (faultFrom tb) (sym (add-one i)) ∙ orElse-none (rowFault (tb .n) (aboveOf tb i) (rowAt tb i)) i (faultFrom tb (i + 1)) at-i .1
+none-tag : (o : Option Refusal) (zero-margin : Bool) → orElse o (cond zero-margin (some M-zero) none) ≡ none → o ≡ none
+none-tag none zero-margin e = refl
+none-tag (some why) zero-margin e = e
+
+none-from : (rows : FileRows) → faultFrom rows 0 ≡ none → (i : ℕ) → i ≤ rows .table .n → faultFrom rows i ≡ none
+none-from rows e zero h = e
+none-from rows e (suc i) h =
+    let at-i = sym (fault-next rows i (omega arith)) ∙ none-from rows e i (omega arith) in
+    ap (faultFrom rows) (sym (add-one i)) ∙ orElse-none (faultAt rows i) i (faultFrom rows (i + 1)) at-i .1
 
 -- what passes the checks is sound
-pub none-sound : (tb : Table) → tableFault (rowsOf tb) ≡ none → Sound tb (tb .n)
-none-sound tb e i h =
-    let at-i = sym (fault-next tb i h) ∙ none-from tb (sym (fault-start tb) ∙ e) i (omega arith) in
-    none-ok (tb .n) (aboveOf tb i) (rowAt tb i) (orElse-none (rowFault (tb .n) (aboveOf tb i) (rowAt tb i)) i (faultFrom tb (i + 1)) at-i .0)
+pub none-sound : (rows : FileRows) → fieldsFault (rows .table .n) [] 0 (fieldsOf rows) ≡ none → Sound (rows .table) (rows .table .n)
+none-sound rows e i h =
+    let tb = rows .table in
+    let at-i = sym (fault-next rows i h) ∙ none-from rows (sym (fault-start rows) ∙ e) i (omega arith) in
+    none-ok (tb .n) (aboveOf tb i) (rowAt tb i)
+    (none-tag (rowFault (tb .n) (aboveOf tb i) (rowAt tb i)) (zeroMargin (fieldAt rows i)) (orElse-none (faultAt rows i) i (faultFrom rows (i + 1)) at-i .0))

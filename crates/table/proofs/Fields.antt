@@ -1,7 +1,7 @@
 -- What the field at the start of a file's rest says of the scan from there on. Assumes nothing.
 use Prim.Native.Nat.{ℕ, zero, suc, _+_, _-_, _≤_, _<_}
 use mathlib.Core.Path.{_≡_, refl, sym, ap, _∙_}
-use mathlib.Core.Bool.{Bool, true, false, cond, _&&_}
+use mathlib.Core.Bool.{Bool, true, false, cond, false≢true, _&&_, _||_}
 use mathlib.Core.List.{List, []}
 use mathlib.Core.Option.{Option, none, some}
 use native.Mathlib.Omega.{arith}
@@ -11,13 +11,12 @@ use lib.Seq.{drop-drop}
 use borrow.Author.Tests.{eqb-true, eqb-false, eq-eqb, ne-eqb}
 use Rattle.rules.specs.Lists.{unless}
 use Rattle.rules.specs.Refusals.{after-end}
-use Rattle.rules.specs.Rows.{Row}
 use Rattle.rules.specs.Fields.{BadField, byte, fieldFault}
-use Rattle.rules.specs.File.{rowTag, tableLength, isRow, rowOf, Scan, whole, broken, withFirst, ends, scan}
+use Rattle.rules.specs.File.{Field, Scan, broken, endTag, ends, fieldOf, isRow, marginTag, rowTag, scan, sizeOf, tableLength, whole, withFirst}
 use Rattle.wire.specs.Field.{badField, fieldCheck, fieldSize}
 use Rattle.wire.specs.declared.field.FieldCheck.{FieldCheck}
 use Rattle.wire.proofs.WholeFields.{IsWhole, bad-is, whole-is}
-use Rattle.table.specs.Answers.{fieldUnless, nextField, scannedOf}
+use Rattle.table.specs.Answers.{fieldUnless, isRowTag, nextField, scannedOf}
 use Rattle.table.specs.declared.scan.TableField.{TableField}
 use Rattle.table.specs.declared.scan.Scanned.{Scanned}
 
@@ -40,29 +39,29 @@ leads at s rest (TableField.Row size) = after 1 rest
 leads at s rest TableField.End = cond (eqb (length s) 3) (Scanned.Whole 0) (Scanned.Broken 4 (at + 3) (length s - 3))
 leads at s rest (TableField.Bad number size) = Scanned.Broken number at size
 
-first-leads : (r : Row) (x : Scan) → scannedOf (withFirst r x) ≡ after 1 (scannedOf x)
-first-leads r (whole rs) = ap Scanned.Whole (omega arith)
-first-leads r (broken why from size) = refl
+first-leads : (f : Field) (x : Scan) → scannedOf (withFirst f x) ≡ after 1 (scannedOf x)
+first-leads f (whole fs) = ap Scanned.Whole (omega arith)
+first-leads f (broken why from size) = refl
 
 ends-leads : (at : ℕ) (s : List ℕ) (b : Bool) → scannedOf (cond b (whole []) (broken after-end (at + 3) (length s - 3))) ≡ cond b (Scanned.Whole 0) (Scanned.Broken 4 (at + 3) (length s - 3))
 ends-leads at s true = refl
 ends-leads at s false = refl
 
 field-leads : (fault : Option BadField) (b : Bool) (at : ℕ) (s : List ℕ) (x : Scan)
-    → scannedOf (unless fault (λ y. broken (y .why) at (y .size)) (cond b (withFirst (rowOf s) x) (ends at s))) ≡ leads at s (scannedOf x) (fieldUnless fault (cond b (TableField.Row (fieldSize s)) TableField.End))
-field-leads none true at s x = first-leads (rowOf s) x
+    → scannedOf (unless fault (λ y. broken (y .why) at (y .size)) (cond b (withFirst (fieldOf s) x) (ends at s))) ≡ leads at s (scannedOf x) (fieldUnless fault (cond b (TableField.Row (fieldSize s)) TableField.End))
+field-leads none true at s x = first-leads (fieldOf s) x
 field-leads none false at s x = ends-leads at s (eqb (length s) 3)
 field-leads (some y) b at s x = refl
 
 -- what the scan says after a row
 abbrev rest : ℕ → ℕ → List ℕ → Scan
 rest zero at s = whole []
-rest (suc more) at s = scan more (at + 10) (drop 10 s)
+rest (suc more) at s = scan more (at + sizeOf (byte s 0)) (drop (sizeOf (byte s 0)) s)
 
 scan-leads : (more at : ℕ) (s : List ℕ) → scannedOf (scan more at s) ≡ leads at s (scannedOf (rest more at s)) (nextField (eqb more 0) s)
 unfolding scan nextField
 scan-leads zero at s = field-leads (fieldFault tableLength (isRow s && true) s) (isRow s) at s (whole [])
-scan-leads (suc more) at s = field-leads (fieldFault tableLength (isRow s && eqb (suc more) 0) s) (isRow s) at s (scan more (at + 10) (drop 10 s))
+scan-leads (suc more) at s = field-leads (fieldFault tableLength (isRow s && eqb (suc more) 0) s) (isRow s) at s (rest (suc more) at s)
 
 full-is : (n : ℕ) → n ≤ 16 → eqb (16 - n) 0 ≡ eqb n 16
 full-is n h = go (eqb n 16) refl
@@ -82,22 +81,22 @@ module _ (full : Bool) (s : List ℕ) where
       let bad = bad-is (isRow s && full) s (tableLength (byte s 0)) e in
       simp (bad .fault-is) (λ i. TableField.Bad (bad .number-is i) (bad .size-is i))
 
-  pub row-found : {size : ℕ} → fieldCheck (tableLength (byte s 0)) (isRow s && full) s ≡ FieldCheck.Whole size → byte s 0 ≡ rowTag → TableField.Row size ≡ nextField full s
+  pub row-found : {size : ℕ} → fieldCheck (tableLength (byte s 0)) (isRow s && full) s ≡ FieldCheck.Whole size → isRow s ≡ true → TableField.Row size ≡ nextField full s
   unfolding nextField
-  row-found e tag =
+  row-found e row =
       let w = whole-is (isRow s && full) s (tableLength (byte s 0)) e in
-      simp (w .no-fault) (simp (eq-eqb _ _ tag) (ap TableField.Row (sym (w .header-is))))
+      simp (w .no-fault) (simp row (ap TableField.Row (sym (w .header-is))))
 
-  pub end-found : {size : ℕ} → fieldCheck (tableLength (byte s 0)) (isRow s && full) s ≡ FieldCheck.Whole size → (byte s 0 ≡ rowTag → ⊥) → TableField.End ≡ nextField full s
+  pub end-found : {size : ℕ} → fieldCheck (tableLength (byte s 0)) (isRow s && full) s ≡ FieldCheck.Whole size → isRow s ≡ false → TableField.End ≡ nextField full s
   unfolding nextField
-  end-found e tag = simp (whole-is (isRow s && full) s (tableLength (byte s 0)) e .no-fault) (simp (ne-eqb _ _ tag))
+  end-found e row = simp (whole-is (isRow s && full) s (tableLength (byte s 0)) e .no-fault) (simp row)
 
--- a row's field: there may be another row, its header says ten bytes, and they are there
+-- a row's field: there may be another row, its header says as many bytes as its tag has, and they are there
 pub record RowField (full : Bool) (s : List ℕ) (size : ℕ) : Type 0 where
   pub more : full ≡ false
   pub header-is : fieldSize s ≡ size
-  pub ten : size ≡ 10
-  pub fits : 10 ≤ length s
+  pub size-is : size ≡ sizeOf (byte s 0)
+  pub fits : size ≤ length s
 
 same-length : {m n : ℕ} → some m ≡ some n → m ≡ n
 same-length e = cc
@@ -105,14 +104,23 @@ same-length e = cc
 same-row : {m n : ℕ} → TableField.Row m ≡ TableField.Row n → m ≡ n
 same-row e = cc
 
+row-length : (tag : ℕ) {bytes : ℕ} → isRowTag tag ≡ true → tableLength tag ≡ some bytes → 3 + bytes ≡ sizeOf tag
+row-length tag {bytes} = go (eqb tag rowTag) refl (eqb tag marginTag) refl
+  where
+    go : (row : Bool) → eqb tag rowTag ≡ row → (margin : Bool) → eqb tag marginTag ≡ margin → (row || margin) ≡ true
+        → cond row (some 7) (cond margin (some 9) (cond (eqb tag endTag) (some 0) none)) ≡ some bytes → 3 + bytes ≡ cond margin 12 10
+    go true p true q h e = absurd (omega (arith, eqb-true tag rowTag p, eqb-true tag marginTag q))
+    go true p false q h e = omega (arith, same-length e)
+    go false p true q h e = omega (arith, same-length e)
+    go false p false q h e = absurd (false≢true h)
+
 row-facts : (full : Bool) (s : List ℕ) {size : ℕ} → IsWhole (tableLength (byte s 0)) (isRow s && full) s (fieldSize s) → isRow s ≡ true → fieldSize s ≡ size → RowField full s size
 row-facts full s w row same =
-    let seven : 7 ≡ w .bytes = same-length (ap tableLength (sym (eqb-true (byte s 0) rowTag row)) ∙ w .value-is) in
     record {
       more = ap (λ (b : Bool). b && full) (sym row) ∙ w .in-time;
       header-is = same;
-      ten = omega (arith, same, w .size-is, seven);
-      fits = omega (arith, w .fits, w .size-is, seven);
+      size-is = sym same ∙ w .size-is ∙ row-length (byte s 0) row (w .value-is);
+      fits = omega (arith, same, w .fits);
     }
 
 pub row-field : (full : Bool) (s : List ℕ) {size : ℕ} → nextField full s ≡ TableField.Row size → RowField full s size
@@ -138,7 +146,7 @@ module _ (s : List ℕ) (at n : ℕ) where
   row-fits e few in-s =
       let h = row-field (eqb n 16) (drop at s) e in
       let k = eqb-false n 16 (h .more) in
-      (omega arith, omega (arith, h .ten, h .fits, length-drop at s))
+      (omega arith, omega (arith, h .fits, length-drop at s))
 
   module _ (few : n ≤ 16) (whole-scan : Scanned) (so-far : whole-scan ≡ after n (scannedOf (scan (16 - n) at (drop at s)))) where
     field-turn : (field : TableField) → nextField (eqb n 16) (drop at s) ≡ field → whole-scan ≡ after n (leads at (drop at s) (scannedOf (rest (16 - n) at (drop at s))) field)
@@ -154,8 +162,8 @@ module _ (s : List ℕ) (at n : ℕ) where
         field-turn (TableField.Row size) e
         ∙ after-after n (scannedOf (rest (16 - n) at (drop at s)))
         ∙ ap (λ (k : ℕ). after (n + 1) (scannedOf (rest k at (drop at s)))) m
-        ∙ ap (λ (l : List ℕ). after (n + 1) (scannedOf (scan (16 - (n + 1)) (at + 10) l))) (drop-drop 10 at s)
-        ∙ ap (λ (k : ℕ). after (n + 1) (scannedOf (scan (16 - (n + 1)) (at + k) (drop (at + k) s)))) (sym (row-field (eqb n 16) (drop at s) e .ten))
+        ∙ ap (λ (k : ℕ). after (n + 1) (scannedOf (scan (16 - (n + 1)) (at + k) (drop k (drop at s))))) (sym (row-field (eqb n 16) (drop at s) e .size-is))
+        ∙ ap (λ (l : List ℕ). after (n + 1) (scannedOf (scan (16 - (n + 1)) (at + size) l))) (drop-drop size at s)
 
     pub bad-turn : {number size : ℕ} → nextField (eqb n 16) (drop at s) ≡ TableField.Bad number size → Scanned.Broken number at size ≡ whole-scan
     bad-turn {number} {size} e = sym (field-turn (TableField.Bad number size) e)

@@ -1,12 +1,12 @@
 -- Lists by index and places filled from the front: one more element, and the element at a place. Assumes nothing.
-use Prim.Native.Nat.{ℕ, zero, suc, _+_, _<_, _≤_}
+use Prim.Native.Nat.{ℕ, zero, suc, _+_, _-_, _<_, _≤_}
 use mathlib.Core.Path.{_≡_, refl, sym, ap, _∙_}
 use mathlib.Core.List.{List, [], _∷_, _++_, map}
 use native.Mathlib.Decide.{decLt}
-use native.Mathlib.Nat.{add-zero, not-suc-le-zero}
+use native.Mathlib.Nat.{add-zero, not-suc-le-zero, zero-add}
 use native.Mathlib.Numerals.{add-one}
 use native.Mathlib.Omega.{arith}
-use lib.ListN.{length, getD, set, length-map, List·getD-eq-default, List·getD-map}
+use lib.ListN.{length, getD, set, take, drop, length-map, List·getD-eq-default, List·getD-map}
 use Rattle.table.specs.Memory.{indexed, fill}
 
 module _ {A : Type 0} (g : ℕ → A) where
@@ -23,6 +23,32 @@ module _ {A : Type 0} (g : ℕ → A) where
       snoc from (suc n) =
           let e : suc from + n ≡ from + suc n = omega arith in
           ap (λ (l : List A). g from ∷ l) (snoc (suc from) n ∙ ap (λ (i : ℕ). indexed g (suc from) n ++ (g i ∷ [])) e)
+
+  -- one more, as the code counts
+  pub indexed-more : (i : ℕ) → indexed g 0 (i + 1) ≡ indexed g 0 i ++ (g i ∷ [])
+  indexed-more i = indexed-next 0 i ∙ ap (λ (k : ℕ). indexed g 0 i ++ (g k ∷ [])) (zero-add i)
+
+  -- the first of them, and the others
+  pub take-indexed : (from k n : ℕ) → k ≤ n → take k (indexed g from n) ≡ indexed g from k
+  take-indexed from zero n h = refl
+  take-indexed from (suc k) zero h = absurd (not-suc-le-zero h)
+  take-indexed from (suc k) (suc n) h = ap (λ (l : List A). g from ∷ l) (take-indexed (suc from) k n (omega arith))
+
+  pub drop-indexed : (from k n : ℕ) → k ≤ n → drop k (indexed g from n) ≡ indexed g (from + k) (n - k)
+  drop-indexed from zero n h =
+      let here : from ≡ from + 0 = omega arith in
+      let all : n ≡ n - 0 = omega arith in
+      ap (λ (i : ℕ). indexed g i n) here ∙ ap (indexed g (from + 0)) all
+  drop-indexed from (suc k) zero h = absurd (not-suc-le-zero h)
+  drop-indexed from (suc k) (suc n) h =
+      let next : suc from + k ≡ from + suc k = omega arith in
+      let left : n - k ≡ suc n - suc k = omega arith in
+      drop-indexed (suc from) k n (omega arith) ∙ ap (λ (i : ℕ). indexed g i (n - k)) next ∙ ap (indexed g (from + suc k)) left
+
+  -- a part of each
+  pub map-indexed : {B : Type 0} (h : A → B) (from n : ℕ) → map h (indexed g from n) ≡ indexed (λ i. h (g i)) from n
+  map-indexed h from zero = refl
+  map-indexed h from (suc n) = ap (λ (l : List _). h (g from) ∷ l) (map-indexed h (suc from) n)
 
 -- a store at the first place that is not filled
 pub fill-next : (n : ℕ) (l : List ℕ) (i x : ℕ) → length l ≡ i → i < n → set (fill n l) i x ≡ fill n (l ++ (x ∷ []))

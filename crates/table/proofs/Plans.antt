@@ -7,9 +7,10 @@ use native.Mathlib.Numerals.{add-one}
 use native.Mathlib.Omega.{arith}
 use lib.Dec.{ltb, eqb}
 use lib.ListN.{length, set, length-append}
-use borrow.Author.Tests.{ltb-false}
+use borrow.Author.Tests.{le-ltb, lt-ltb, ltb-false}
+use Rattle.rules.specs.Refusals.{R-M-over-D, atRow}
 use Rattle.rules.specs.Rows.{Row}
-use Rattle.rules.specs.Bound.{f, Bound, bound, none-to-D, iterate, response, promotion, PlannedRow, planned, unplanned, withRow, planRows}
+use Rattle.rules.specs.Bound.{f, Bound, bound, none-to-D, iterate, onto, response, promotion, PlannedRow, planned, unplanned, withRow, planRows}
 use Rattle.rules.specs.Bound as rules
 use Rattle.table.specs.Memory.{indexed, fill, rowAt, rowsOf, aboveOf}
 use Rattle.table.specs.Answers.{boundOf, refusedPlanning, planningOf}
@@ -47,9 +48,17 @@ abbrev pub prepend : List PlannedRow → rules.Plan → rules.Plan
 prepend ps (planned qs) = planned (ps ++ qs)
 prepend ps (unplanned x) = unplanned x
 
-prepend-row : (ps : List PlannedRow) (r : Row) (i R k : ℕ) (p : rules.Plan) → prepend ps (withRow r i (bound R k) p) ≡ prepend (ps ++ (record { row = r; R = R; rounds = k } ∷ [])) p
-prepend-row ps r i R k (planned qs) = ap planned (sym (append-assoc ps (record { row = r; R = R; rounds = k } ∷ []) qs))
-prepend-row ps r i R k (unplanned x) = refl
+prepend-row : (ps : List PlannedRow) (r : PlannedRow) (p : rules.Plan) → prepend ps (onto r p) ≡ prepend (ps ++ (r ∷ [])) p
+prepend-row ps r (planned qs) = ap planned (sym (append-assoc ps (r ∷ []) qs))
+prepend-row ps r (unplanned x) = refl
+
+-- a bound with the margin fits D, or 22 refuses it
+module _ (r : Row) (i R k : ℕ) (p : rules.Plan) where
+  row-fits : R + r .M ≤ r .D → withRow r i (bound R k) p ≡ onto (record { row = r; R = R; rounds = k }) p
+  row-fits h = ap (λ (b : Bool). cond b (unplanned (atRow R-M-over-D i)) (onto (record { row = r; R = R; rounds = k }) p)) (le-ltb (r .D) (R + r .M) h)
+
+  row-over : r .D < R + r .M → withRow r i (bound R k) p ≡ unplanned (atRow R-M-over-D i)
+  row-over h = ap (λ (b : Bool). cond b (unplanned (atRow R-M-over-D i)) (onto (record { row = r; R = R; rounds = k }) p)) (lt-ltb (r .D) (R + r .M) h)
 
 -- the plan of the rows from a position on
 abbrev pub planFrom : Table → ℕ → rules.Plan
@@ -88,8 +97,13 @@ none-planned tb =
     }
 
 module _ (tb : Table) (i : ℕ) (r u rounds : List ℕ) (so : SoFar tb i r u rounds) where
-  pub one-more-planned : i < tb .n → tb .n ≤ 16 → {w k x : ℕ} → response (aboveOf tb i) (rowAt tb i) ≡ bound w k → x ≡ rowAt tb i .D - w → SoFar tb (i + 1) (set r i w) (set u i x) (set rounds i k)
-  one-more-planned more few {w} {k} {x} e later =
+  -- the plan from row i on, by its bound
+  plan-turn : i < tb .n → {b : Bound} → response (aboveOf tb i) (rowAt tb i) ≡ b → planRows [] 0 (rowsOf tb) ≡ prepend (so .rows) (withRow (rowAt tb i) i b (planFrom tb (i + 1)))
+  plan-turn more e = so .plan-is ∙ ap (prepend (so .rows)) (plan-next tb i more ∙ ap (λ (b : Bound). withRow (rowAt tb i) i b (planFrom tb (i + 1))) e)
+
+  pub one-more-planned : i < tb .n → tb .n ≤ 16 → {w k x : ℕ} → response (aboveOf tb i) (rowAt tb i) ≡ bound w k → w + rowAt tb i .M ≤ rowAt tb i .D
+      → x ≡ promotion (rowAt tb i) w → SoFar tb (i + 1) (set r i w) (set u i x) (set rounds i k)
+  one-more-planned more few {w} {k} {x} e fits later =
       let p : PlannedRow = record { row = rowAt tb i; R = w; rounds = k } in
       record {
         rows = so .rows ++ (p ∷ []);
@@ -97,17 +111,15 @@ module _ (tb : Table) (i : ℕ) (r u rounds : List ℕ) (so : SoFar tb i r u rou
         r-is = ap (λ (l : List ℕ). set l i w) (so .r-is) ∙ column-next (λ q. q .R) (so .rows) p i w (so .count) (omega arith) refl;
         u-is = ap (λ (l : List ℕ). set l i x) (so .u-is) ∙ column-next (λ q. promotion (q .row) (q .R)) (so .rows) p i x (so .count) (omega arith) later;
         rounds-is = ap (λ (l : List ℕ). set l i k) (so .rounds-is) ∙ column-next (λ q. q .rounds) (so .rows) p i k (so .count) (omega arith) refl;
-        plan-is =
-            so .plan-is
-            ∙ ap (prepend (so .rows)) (plan-next tb i more ∙ ap (λ (b : Bound). withRow (rowAt tb i) i b (planFrom tb (i + 1))) e)
-            ∙ prepend-row (so .rows) (rowAt tb i) i w k (planFrom tb (i + 1));
+        plan-is = plan-turn more e ∙ ap (prepend (so .rows)) (row-fits (rowAt tb i) i w k (planFrom tb (i + 1)) fits) ∙ prepend-row (so .rows) p (planFrom tb (i + 1));
       }
 
-  pub planning-fails : i < tb .n → response (aboveOf tb i) (rowAt tb i) ≡ none-to-D → refusedPlanning 10 i ≡ planningOf (planRows [] 0 (rowsOf tb))
-  planning-fails more e =
-      sym
-      (ap planningOf
-      (so .plan-is ∙ ap (prepend (so .rows)) (plan-next tb i more ∙ ap (λ (b : Bound). withRow (rowAt tb i) i b (planFrom tb (i + 1))) e)))
+  pub bound-fails : i < tb .n → response (aboveOf tb i) (rowAt tb i) ≡ none-to-D → refusedPlanning 10 i ≡ planningOf (planRows [] 0 (rowsOf tb))
+  bound-fails more e = sym (ap planningOf (plan-turn more e))
+
+  pub margin-fails : i < tb .n → {w k : ℕ} → response (aboveOf tb i) (rowAt tb i) ≡ bound w k → rowAt tb i .D < w + rowAt tb i .M → refusedPlanning 22 i ≡ planningOf (planRows [] 0 (rowsOf tb))
+  margin-fails more {w} {k} e over =
+      sym (ap planningOf (plan-turn more e ∙ ap (prepend (so .rows)) (row-over (rowAt tb i) i w k (planFrom tb (i + 1)) over)))
 
   pub all-planned : tb .n ≤ i → _≡_ {A = Planning} (record { verdict = Checked.Passed; plan = record { r = r; u = u; rounds = rounds } }) (planningOf (planRows [] 0 (rowsOf tb)))
   unfolding planRows

@@ -1,19 +1,19 @@
 -- What each answer of the code says in document 01's words: the number and the values of every case. Assumes nothing.
 use Prim.Native.Nat.{ℕ, _+_}
-use mathlib.Core.Bool.{Bool, cond, _&&_}
+use mathlib.Core.Bool.{Bool, cond, _&&_, _||_}
 use mathlib.Core.List.{List, [], map}
 use mathlib.Core.Option.{Option, none, some, Option·map}
-use lib.Dec.{ltb}
+use lib.Dec.{eqb, ltb}
 use lib.ListN.{length}
 use Rattle.rules.specs.Lists.{total}
 use Rattle.rules.specs.Refusals.{number, row-17, Refused, refusal, atRow}
 use Rattle.rules.specs.Rows.{Row, rowFault}
 use Rattle.rules.specs.Bound.{most, bound, none-to-D, planned, unplanned, plan}
 use Rattle.rules.specs.Fields.{BadField, fieldFault}
-use Rattle.rules.specs.File.{isRow, tableLength, whole, broken, Scan, scan, Reading, read-as, unread, planScan, read, Writing, written, unwritten}
+use Rattle.rules.specs.File.{Field, isRow, marginTag, rowTag, tableLength, tagFault, whole, broken, Scan, scan, Reading, read-as, unread, planFields, planScan, read, Writing, written, unwritten}
 use Rattle.rules.specs.Bound as rules
 use Rattle.wire.specs.Field.{fieldSize}
-use Rattle.table.specs.Memory.{rowAt, aboveOf, tableOf, planOf}
+use Rattle.table.specs.Memory.{rowAt, aboveOf, fieldAt, tableOf, planOf}
 use Rattle.table.specs.Walk.{sizeAt, startOf}
 use Rattle.table.specs.declared.Table.{Table}
 use Rattle.table.specs.declared.Checked.{Checked}
@@ -23,9 +23,14 @@ use Rattle.table.specs.declared.FileVerdict.{FileVerdict}
 use Rattle.table.specs.declared.TableRead.{TableRead}
 use Rattle.table.specs.declared.Written.{Written}
 use Rattle.table.specs.declared.scan.FileRow.{FileRow}
+use Rattle.table.specs.declared.scan.FileRows.{FileRows}
 use Rattle.table.specs.declared.scan.TableField.{TableField}
 use Rattle.table.specs.declared.scan.Scanned.{Scanned}
 use Rattle.table.specs.declared.bounds.Bound.{Bound}
+
+-- the tag is a row's
+abbrev pub isRowTag : ℕ → Bool
+isRowTag tag = eqb tag rowTag || eqb tag marginTag
 
 -- the first field of a file's rest: good, or what is wrong with it
 abbrev pub fieldUnless : Option BadField → TableField → TableField
@@ -38,12 +43,12 @@ nextField full s = fieldUnless (fieldFault tableLength (isRow s && full) s) (con
 
 -- how many rows the file has, or why it is broken
 abbrev pub scannedOf : Scan → Scanned
-scannedOf (whole rs) = Scanned.Whole (length rs)
+scannedOf (whole fs) = Scanned.Whole (length fs)
 scannedOf (broken why from size) = Scanned.Broken (number why) from size
 
 -- a row as its field has it
-abbrev pub fileRow : Row → FileRow
-fileRow r = record { c = r .C; d = r .D; t = r .T; rank = r .rank }
+abbrev pub fileRow : Field → FileRow
+fileRow f = record { tag = f .tag; c = f .row .C; d = f .row .D; t = f .row .T; rank = f .row .rank; m = f .row .M }
 
 -- whether the checks pass, or the number and the row
 abbrev pub checkedOf : Option Refused → Checked
@@ -53,6 +58,10 @@ checkedOf (some x) = Checked.Failed (number (x .why)) (x .row)
 -- what 6 to 9 say of one row
 abbrev pub rowChecked : Table → ℕ → Checked
 rowChecked tb i = checkedOf (Option·map (λ why. atRow why i) (rowFault (tb .n) (aboveOf tb i) (rowAt tb i)))
+
+-- what 6 to 9 and 21 say of it
+abbrev pub fieldChecked : FileRows → ℕ → Checked
+fieldChecked rows i = checkedOf (Option·map (λ why. atRow why i) (tagFault (rows .table .n) (aboveOf (rows .table) i) (fieldAt rows i)))
 
 -- what the rows above ask at most of w ticks
 abbrev pub demandOf : List Row → ℕ → ℕ
@@ -72,7 +81,7 @@ abbrev pub planningOf : rules.Plan → Planning
 planningOf (planned ps) = record { verdict = Checked.Passed; plan = planOf ps }
 planningOf (unplanned x) = refusedPlanning (number (x .why)) (x .row)
 
--- planning: 5, then 6 to 10
+-- planning: 5, then 6 to 10 and 22
 unfoldable pub planOrRefuse : List Row → rules.Plan
 planOrRefuse rs = cond (ltb 16 (length rs)) (unplanned (refusal row-17)) (plan rs)
 
@@ -100,12 +109,12 @@ planRow (unplanned x) = x .row + 1
 
 -- the row that the refusal of a file is about: none until it is scanned whole
 abbrev pub scanRow : Scan → ℕ
-scanRow (whole rs) = planRow (plan rs)
+scanRow (whole fs) = planRow (planFields fs)
 scanRow (broken why from size) = 0
 
--- what is read by the plan of a file's rows
-abbrev pub planRead : rules.Plan → TableRead
-planRead p = readingOf (planRow p) (planScan p)
+-- what is read by the plan of a file's fields
+abbrev pub planRead : List Field → rules.Plan → TableRead
+planRead fs p = readingOf (planRow p) (planScan fs p)
 
 -- what is read of a file
 unfoldable pub fileRead : List ℕ → TableRead

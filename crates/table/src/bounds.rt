@@ -5,7 +5,7 @@ use crate::Planning;
 use crate::Table;
 ghost use mathlib.Core.Path.{_≡_};
 ghost use mathlib.Core.List.{[]};
-ghost use Prim.Native.Nat.{suc, _-_, _*_, _≤_, _<_};
+ghost use Prim.Native.Nat.{suc, _+_, _-_, _*_, _≤_, _<_};
 ghost use Rattle.rules.specs.Bound.{response, planRows};
 ghost use Rattle.table.specs.Memory.{rowAt, rowsOf, aboveOf, Sound};
 ghost use Rattle.table.specs.Answers.{demandOf, boundOf, refusedPlanning, planningOf};
@@ -16,7 +16,7 @@ pub enum Bound {
     PassesD,
 }
 
-// The plan of a table that passes 6 to 9: rows in order, 10 in each.
+// The plan of a table that passes 6 to 9: rows in order, 10 and then 22 in each.
 pub fn plan_rows(tb: Table) -> Planning
     requires { ⌜ (tb .n ≤ 16) × Sound tb (tb .n) ⌝ }
     ensures { λ r. ⌜ r ≡ planningOf (planRows [] 0 (rowsOf tb)) ⌝ }
@@ -28,8 +28,11 @@ pub fn plan_rows(tb: Table) -> Planning
     while i < tb.n {
         match bound_of_row(tb, i) {
             Bound::Found { w, rounds: k } => {
+                if wide(tb.d[i]) < wide(w) + wide(tb.m[i]) {
+                    return unplanned(22, i);
+                }
                 r[i] = w;
-                u[i] = promotion_time(tb.d[i], w);
+                u[i] = promotion_time(tb.d[i], w, tb.m[i]);
                 rounds[i] = k;
                 i += 1;
             }
@@ -61,12 +64,12 @@ pub fn unplanned(number: u8, row: usize) -> Planning
     }
 }
 
-// U, from D and R.
-fn promotion_time(d: u16, bound: u16) -> u16
-    requires { ⌜ bound ≤ d ⌝ }
-    ensures { λ r. ⌜ r ≡ d - bound ⌝ }
+// U, from D, R and M.
+fn promotion_time(d: u16, bound: u16, margin: u16) -> u16
+    requires { ⌜ bound + margin ≤ d ⌝ }
+    ensures { λ r. ⌜ r ≡ d - bound - margin ⌝ }
 {
-    d - bound
+    d - bound - margin
 }
 
 // The iteration of row i, from w = C, until its value repeats or passes D; a round is an evaluation of f.

@@ -1,22 +1,27 @@
-// The checks 6 to 9 of a table's rows.
+// The checks 6 to 9 and 21 of rows.
 use crate::Checked;
 use crate::Table;
+use crate::form;
+use crate::scan::FileRows;
 ghost use mathlib.Core.Path.{_≡_};
 ghost use mathlib.Core.Bool.{_||_};
+ghost use mathlib.Core.List.{[]};
 ghost use Prim.Native.Nat.{_≤_, _<_};
 ghost use lib.Dec.{leb};
-ghost use Rattle.rules.specs.Rows.{used, tableFault};
-ghost use Rattle.table.specs.Memory.{rowAt, rowsOf, aboveOf};
-ghost use Rattle.table.specs.Answers.{checkedOf, rowChecked};
+ghost use Rattle.rules.specs.Rows.{used};
+ghost use Rattle.rules.specs.File.{fieldsFault};
+ghost use Rattle.table.specs.Memory.{rowAt, aboveOf, fieldsOf};
+ghost use Rattle.table.specs.Answers.{checkedOf, fieldChecked, rowChecked};
 
-// Rows in order, 6 to 9 in each.
-pub fn rows_check(tb: Table) -> Checked
-    requires { ⌜ tb .n ≤ 16 ⌝ }
-    ensures { λ r. ⌜ r ≡ checkedOf (tableFault (rowsOf tb)) ⌝ }
+// Rows in order, 6 to 9 in each, then 21.
+pub fn rows_check(rows: FileRows) -> Checked
+    requires { ⌜ rows .table .n ≤ 16 ⌝ }
+    ensures { λ r. ⌜ r ≡ checkedOf (fieldsFault (rows .table .n) [] 0 (fieldsOf rows)) ⌝ }
 {
+    let tb = rows.table;
     let mut i: usize = 0;
     while i < tb.n {
-        match row_check(tb, i) {
+        match field_check(rows, i) {
             Checked::Passed => {
                 i += 1;
             }
@@ -26,6 +31,24 @@ pub fn rows_check(tb: Table) -> Checked
         }
     }
     Checked::Passed
+}
+
+// 6 to 9 and 21 in the row at position i.
+fn field_check(rows: FileRows, i: usize) -> Checked
+    requires { ⌜ i < 16 ⌝ }
+    ensures { λ r. ⌜ r ≡ fieldChecked rows i ⌝ }
+{
+    let tb = rows.table;
+    match row_check(tb, i) {
+        Checked::Failed { number, row } => Checked::Failed { number, row },
+        Checked::Passed => {
+            if (rows.tag[i] == form::MARGIN_TAG) & (tb.m[i] == 0) {
+                Checked::Failed { number: 21, row: i }
+            } else {
+                Checked::Passed
+            }
+        }
+    }
 }
 
 // 6 to 9 in the row at position i.

@@ -1,9 +1,15 @@
-// What a table file looks like, to its reader and its writer: a row's field and the end field.
+// What a table file looks like, to its reader and its writer: a row's field, without a margin and with one, and the end field.
 pub const ROW_TAG: u8 = 0x01;
 
 pub const ROW_LENGTH: u16 = 7;
 
 pub const ROW_BYTES: usize = 10;
+
+pub const MARGIN_TAG: u8 = 0x02;
+
+pub const MARGIN_LENGTH: u16 = 9;
+
+pub const MARGIN_BYTES: usize = 12;
 
 pub const END_TAG: u8 = 0x0f;
 

@@ -5,11 +5,11 @@ use crate::form;
 ghost use mathlib.Core.Path.{_≡_};
 ghost use Prim.Native.Nat.{suc, _+_, _≤_, _<_};
 ghost use lib.ListN.{length, drop};
-ghost use Rattle.rules.specs.File.{rowOf, scan, tableLength};
+ghost use Rattle.rules.specs.File.{fieldOf, rowOf, scan, sizeOf, tableLength};
 ghost use Rattle.wire.specs.Field.{fieldSize, lengthOf};
-ghost use Rattle.table.specs.Memory.{tableOf};
-ghost use Rattle.table.specs.Walk.{RowFields, rowsIn};
-ghost use Rattle.table.specs.Answers.{fileRow, nextField, rowRefusal, scannedOf};
+ghost use Rattle.table.specs.Memory.{fileRows};
+ghost use Rattle.table.specs.Walk.{RowFields, fieldsIn, tagAt};
+ghost use Rattle.table.specs.Answers.{fileRow, isRowTag, nextField, rowRefusal, scannedOf};
 use wire::FieldCheck;
 use wire::ValueLength;
 
@@ -32,12 +32,20 @@ pub enum Scanned {
     },
 }
 
-// A row as its field has it.
+// A row as its field has it: M is 0 where the tag has none.
 pub struct FileRow {
+    pub tag: u8,
     pub c: u16,
     pub d: u16,
     pub t: u16,
     pub rank: u8,
+    pub m: u16,
+}
+
+// The rows of a file, and the tags of their fields; 0 where there is no row.
+pub struct FileRows {
+    pub table: Table,
+    pub tag: [u8; 16],
 }
 
 // The scan of a whole file: checks 1 to 5.
@@ -80,10 +88,11 @@ fn field_of(s: &[u8], full: bool) -> TableField
     ensures { λ r. ⌜ r ≡ nextField full (now (s .entry)) ⌝ }
 {
     let tag = wire::tag_of(s);
-    match wire::check_field(s, value_length(tag), (tag == form::ROW_TAG) & full) {
+    let row = is_row(tag);
+    match wire::check_field(s, value_length(tag), row & full) {
         FieldCheck::Bad { number, size } => TableField::Bad { number, size },
         FieldCheck::Whole { size } => {
-            if tag == form::ROW_TAG {
+            if row {
                 TableField::Row { size }
             } else {
                 TableField::End
@@ -92,12 +101,21 @@ fn field_of(s: &[u8], full: bool) -> TableField
     }
 }
 
+// The tag is a row's.
+fn is_row(tag: u8) -> bool
+    ensures { λ r. ⌜ r ≡ isRowTag tag ⌝ }
+{
+    (tag == form::ROW_TAG) | (tag == form::MARGIN_TAG)
+}
+
 // How long the value of a table tag is.
 fn value_length(tag: u8) -> ValueLength
     ensures { λ r. ⌜ lengthOf r ≡ tableLength tag ⌝ }
 {
     if tag == form::ROW_TAG {
         ValueLength::Known(form::ROW_LENGTH)
+    } else if tag == form::MARGIN_TAG {
+        ValueLength::Known(form::MARGIN_LENGTH)
     } else if tag == form::END_TAG {
         ValueLength::Known(form::END_LENGTH)
     } else {
@@ -105,39 +123,65 @@ fn value_length(tag: u8) -> ValueLength
     }
 }
 
-// The table of a file's first n rows.
-pub fn table_at(s: &[u8], n: usize) -> Table
+// A file's first n rows.
+pub fn rows_at(s: &[u8], n: usize) -> FileRows
     requires { ⌜ (n ≤ 16) × RowFields (now s) n ⌝ }
-    ensures { λ r. ⌜ r ≡ tableOf (rowsIn (now (s .entry)) n) ⌝ }
+    ensures { λ r. ⌜ r ≡ fileRows (fieldsIn (now (s .entry)) n) ⌝ }
 {
+    let mut tag = [0u8; 16];
     let mut c = [0u16; 16];
     let mut d = [0u16; 16];
     let mut t = [0u16; 16];
     let mut rank = [0u8; 16];
+    let mut m = [0u16; 16];
     let mut at: usize = 0;
     let mut i: usize = 0;
     while i < n {
         let row = row_at(s, at);
+        tag[i] = row.tag;
         c[i] = row.c;
         d[i] = row.d;
         t[i] = row.t;
         rank[i] = row.rank;
+        m[i] = row.m;
         at += field_size(s, at);
         i += 1;
     }
-    Table { n, c, d, t, rank }
+    let table = Table {
+        n,
+        c,
+        d,
+        t,
+        rank,
+        m,
+    };
+    FileRows { table, tag }
 }
 
 // The row whose field stands at a place.
 fn row_at(s: &[u8], at: usize) -> FileRow
-    requires { ⌜ at + 10 ≤ length (now s) ⌝ }
-    ensures { λ r. ⌜ r ≡ fileRow (rowOf (drop at (now (s .entry)))) ⌝ }
+    requires { ⌜ at + sizeOf (tagAt (now s) at) ≤ length (now s) ⌝ }
+    ensures { λ r. ⌜ r ≡ fileRow (fieldOf (drop at (now (s .entry)))) ⌝ }
 {
     FileRow {
+        tag: s[at],
         c: wire::get_u16(s, at + 3),
         d: wire::get_u16(s, at + 5),
         t: wire::get_u16(s, at + 7),
         rank: s[at + 9],
+        m: margin_at(s, at),
+    }
+}
+
+// The margin of that row.
+fn margin_at(s: &[u8], at: usize) -> u16
+    requires { ⌜ at + sizeOf (tagAt (now s) at) ≤ length (now s) ⌝ }
+    ensures { λ r. ⌜ r ≡ rowOf (drop at (now (s .entry))) .M ⌝ }
+{
+    if s[at] == form::MARGIN_TAG {
+        wire::get_u16(s, at + 10)
+    } else {
+        0
     }
 }
 

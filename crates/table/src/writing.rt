@@ -8,7 +8,7 @@ ghost use Prim.Native.Nat.{_+_, _≤_};
 ghost use lib.ListN.{length};
 ghost use lib.Seq.{sets};
 ghost use Rattle.rules.specs.File.{rowBytes, fileBytes, put};
-ghost use Rattle.table.specs.Memory.{rowsOf, rowsBytes};
+ghost use Rattle.table.specs.Memory.{frontBytes, rowSize, rowsBytes, rowsOf};
 ghost use Rattle.table.specs.Answers.{writtenOf, outputAfter};
 
 // The whole file, where it fits: 19 where it does not.
@@ -31,7 +31,24 @@ fn file_size(tb: Table) -> usize
     requires { ⌜ tb .n ≤ 16 ⌝ }
     ensures { λ r. ⌜ r ≡ length (fileBytes (rowsOf tb)) ⌝ }
 {
-    form::ROW_BYTES * tb.n + form::END_BYTES
+    let mut size = form::END_BYTES;
+    let mut i: usize = 0;
+    while i < tb.n {
+        size += row_size(tb.m[i]);
+        i += 1;
+    }
+    size
+}
+
+// How long the field of a row with this margin is.
+fn row_size(m: u16) -> usize
+    ensures { λ r. ⌜ r ≡ rowSize m ⌝ }
+{
+    if m == 0 {
+        form::ROW_BYTES
+    } else {
+        form::MARGIN_BYTES
+    }
 }
 
 // The fields of the rows, one after the other; the place after the last.
@@ -43,20 +60,42 @@ fn put_rows(tb: Table, out: &mut [u8]) -> usize
     let mut at: usize = 0;
     let mut i: usize = 0;
     while i < tb.n {
-        put_row(out, at, tb.c[i], tb.d[i], tb.t[i], tb.rank[i]);
-        at += form::ROW_BYTES;
+        put_row(out, at, tb.c[i], tb.d[i], tb.t[i], tb.rank[i], tb.m[i]);
+        at += row_size(tb.m[i]);
         i += 1;
     }
     at
 }
 
-// One row's field at a place.
-fn put_row(out: &mut [u8], at: usize, c: u16, d: u16, t: u16, rank: u8)
-    requires { ⌜ at + 10 ≤ length (now out) ⌝ }
-    ensures { λ _. ⌜ now (out .exit) ≡ sets (now (out .entry)) at (rowBytes (record { C = c; D = d; T = t; rank = rank })) ⌝ }
+// One row's field at a place: tag 01 where the margin is 0.
+fn put_row(out: &mut [u8], at: usize, c: u16, d: u16, t: u16, rank: u8, m: u16)
+    requires { ⌜ at + rowSize m ≤ length (now out) ⌝ }
+    ensures { λ _. ⌜ now (out .exit) ≡ sets (now (out .entry)) at (rowBytes (record { C = c; D = d; T = t; rank = rank; M = m })) ⌝ }
 {
-    wire::put_u8(out, at, form::ROW_TAG);
-    wire::put_u16(out, at + 1, form::ROW_LENGTH);
+    if m == 0 {
+        put_front(out, at, form::ROW_TAG, form::ROW_LENGTH, c, d, t, rank);
+    } else {
+        put_front(
+            out,
+            at,
+            form::MARGIN_TAG,
+            form::MARGIN_LENGTH,
+            c,
+            d,
+            t,
+            rank,
+        );
+        wire::put_u16(out, at + form::ROW_BYTES, m);
+    }
+}
+
+// What the two forms of a row's field have in common: all but the margin.
+fn put_front(out: &mut [u8], at: usize, tag: u8, bytes: u16, c: u16, d: u16, t: u16, rank: u8)
+    requires { ⌜ at + 10 ≤ length (now out) ⌝ }
+    ensures { λ _. ⌜ now (out .exit) ≡ sets (now (out .entry)) at (frontBytes tag bytes c d t rank) ⌝ }
+{
+    wire::put_u8(out, at, tag);
+    wire::put_u16(out, at + 1, bytes);
     wire::put_u16(out, at + 3, c);
     wire::put_u16(out, at + 5, d);
     wire::put_u16(out, at + 7, t);

@@ -5,7 +5,7 @@ use native.Mathlib.Omega.{arith}
 use borrow.Author.Needs.{needs}
 use Rattle.rules.specs.Bound.{bound, response}
 use Rattle.table.specs.Memory.{rowAt, aboveOf}
-use Rattle.table.proofs.Plans.{bound-found, bound-passes, bound-le, SoFar, none-planned, one-more-planned, planning-fails, all-planned}
+use Rattle.table.proofs.Plans.{bound-found, bound-passes, SoFar, none-planned, one-more-planned, bound-fails, margin-fails, all-planned}
 use Rattle.table.proofs.bounds.plan_rows.Statement.{statement}
 use Rattle.table.proofs.bounds.plan_rows.Tie as tie
 
@@ -28,6 +28,41 @@ bound-of-row-requires c κs = (omega arith, λ j h. c .before .before .pre .1 j 
 enum-known-w : tie.Need-enum-known-w Inv-loop μ-loop
 enum-known-w c = search needs
 
+mul-wide : tie.Need-mul-wide Inv-loop μ-loop
+mul-wide c = search needs
+
+element-copy-out-wide : tie.Need-element-copy-out-wide Inv-loop μ-loop
+element-copy-out-wide c = search needs
+
+wide-requires : tie.Need-wide-requires Inv-loop μ-loop
+wide-requires c κs = search needs
+
+wide-requires-2 : tie.Need-wide-requires-2 Inv-loop μ-loop
+wide-requires-2 c κs = search needs
+
+mul-wide-2 : tie.Need-mul-wide-2 Inv-loop μ-loop
+mul-wide-2 c = search needs
+
+element-copy-out-wide-2 : tie.Need-element-copy-out-wide-2 Inv-loop μ-loop
+element-copy-out-wide-2 c = search needs
+
+wide-requires-3 : tie.Need-wide-requires-3 Inv-loop μ-loop
+wide-requires-3 c κs = search needs
+
+add-if1 : tie.Need-add-if1 Inv-loop μ-loop
+add-if1 c = search needs
+
+unplanned-requires : tie.Need-unplanned-requires Inv-loop μ-loop
+unplanned-requires c κs = search needs
+
+returns : tie.Need-returns Inv-loop μ-loop
+returns c =
+    let m = c .before .before in
+    let told = m .before .before .before .before .before in
+    let l = told .before .before .before .before .before .loop in
+    let tb = told .before .before .before .before .before .before .args .t1 in
+    c .unplanned .ensures ∙ margin-fails tb (l .i) (l .r) (l .u) (l .rounds) (l .inv .1) (omega arith) (found (told .before)) (omega arith)
+
 mul-r : tie.Need-mul-r Inv-loop μ-loop
 mul-r c = search needs
 
@@ -40,11 +75,14 @@ mul-promotion-time c = search needs
 element-copy-out-promotion-time : tie.Need-element-copy-out-promotion-time Inv-loop μ-loop
 element-copy-out-promotion-time c = search needs
 
+mul-promotion-time-2 : tie.Need-mul-promotion-time-2 Inv-loop μ-loop
+mul-promotion-time-2 c = search needs
+
+element-copy-out-promotion-time-2 : tie.Need-element-copy-out-promotion-time-2 Inv-loop μ-loop
+element-copy-out-promotion-time-2 c = search needs
+
 promotion-time-requires : tie.Need-promotion-time-requires Inv-loop μ-loop
-promotion-time-requires c κs =
-    let l = c .before .before .before .before .before .before .loop in
-    let tb = c .before .before .before .before .before .before .before .args .t1 in
-    bound-le (aboveOf tb (l .i)) (rowAt tb (l .i)) (found (c .before .before))
+promotion-time-requires c κs = omega arith
 
 mul-u : tie.Need-mul-u Inv-loop μ-loop
 mul-u c = search needs
@@ -66,25 +104,29 @@ loop-less c = search needs
 
 loop-again : tie.Need-loop-again Inv-loop μ-loop
 loop-again c =
-    let l = c .before .before .before .before .before .before .before .loop in
-    let start = c .before .before .before .before .before .before .before .before in
-    (omega arith, one-more-planned (start .args .t1) (l .i) (l .r) (l .u) (l .rounds) (l .inv .1) (omega arith) (start .pre .0) (found (c .before .before .before)) (c .promotion-time .ensures))
+    let fits = c .before .before .before in
+    let told = fits .before .before .before .before .before .before in
+    let l = told .before .before .before .before .before .loop in
+    let start = told .before .before .before .before .before .before in (
+      omega arith,
+      one-more-planned (start .args .t1) (l .i) (l .r) (l .u) (l .rounds) (l .inv .1) (omega arith) (start .pre .0) (found (told .before)) (omega arith) (c .promotion-time .ensures),
+    )
 
 enum-told : tie.Need-enum-told Inv-loop μ-loop
 enum-told c = search needs
 
-unplanned-requires : tie.Need-unplanned-requires Inv-loop μ-loop
-unplanned-requires c κs = search needs
-
-returns : tie.Need-returns Inv-loop μ-loop
-returns c =
-    let l = c .before .before .before .before .before .loop in
-    let tb = c .before .before .before .before .before .before .args .t1 in
-    c .unplanned .ensures
-    ∙ planning-fails tb (l .i) (l .r) (l .u) (l .rounds) (l .inv .1) (omega arith) (bound-passes _ (sym (c .before .enum-told .given .1) ∙ c .before .before .before .bound-of-row .ensures))
+unplanned-requires-2 : tie.Need-unplanned-requires-2 Inv-loop μ-loop
+unplanned-requires-2 c κs = search needs
 
 returns-2 : tie.Need-returns-2 Inv-loop μ-loop
 returns-2 c =
+    let l = c .before .before .before .before .before .loop in
+    let tb = c .before .before .before .before .before .before .args .t1 in
+    c .unplanned2 .ensures
+    ∙ bound-fails tb (l .i) (l .r) (l .u) (l .rounds) (l .inv .1) (omega arith) (bound-passes _ (sym (c .before .enum-told .given .1) ∙ c .before .before .before .bound-of-row .ensures))
+
+returns-3 : tie.Need-returns-3 Inv-loop μ-loop
+returns-3 c =
     let l = c .before .loop in
     all-planned (c .before .before .args .t1) (l .i) (l .r) (l .u) (l .rounds) (l .inv .1) (omega arith)
 
@@ -97,10 +139,22 @@ plan-rows-spec =
     loop-holds
     bound-of-row-requires
     enum-known-w
+    mul-wide
+    element-copy-out-wide
+    wide-requires
+    wide-requires-2
+    mul-wide-2
+    element-copy-out-wide-2
+    wide-requires-3
+    add-if1
+    unplanned-requires
+    returns
     mul-r
     array-write-r
     mul-promotion-time
     element-copy-out-promotion-time
+    mul-promotion-time-2
+    element-copy-out-promotion-time-2
     promotion-time-requires
     mul-u
     array-write-u
@@ -110,6 +164,6 @@ plan-rows-spec =
     loop-less
     loop-again
     enum-told
-    unplanned-requires
-    returns
-    returns-2)
+    unplanned-requires-2
+    returns-2
+    returns-3)

@@ -1,26 +1,27 @@
 -- `table::faults::rows_check` meets its contract. The invariant: the checks of all rows come to those from row i on. The measure is how many rows are left. Assumes nothing.
 use Prim.Native.Nat.{_-_, _≤_}
+use mathlib.Core.List.{[]}
 use mathlib.Core.Path.{_≡_, sym, ap, _∙_}
 use native.Mathlib.Omega.{arith}
 use borrow.Author.Needs.{needs}
-use Rattle.rules.specs.Rows.{tableFault}
-use Rattle.table.specs.Memory.{rowsOf}
+use Rattle.rules.specs.File.{fieldsFault}
+use Rattle.table.specs.Memory.{fieldsOf}
 use Rattle.table.specs.Answers.{checkedOf}
 use Rattle.table.proofs.Checks.{faultFrom, fault-start, row-passed, row-failed, fault-end}
 use Rattle.table.proofs.faults.rows_check.Statement.{statement}
 use Rattle.table.proofs.faults.rows_check.Tie as tie
 
 abbrev Inv-loop : tie.InvT-loop
-Inv-loop tb i₀ i = (i ≤ tb .n) × (tableFault (rowsOf tb) ≡ faultFrom tb i)
+Inv-loop rows tb i₀ i = (i ≤ rows .table .n) × (fieldsFault (rows .table .n) [] 0 (fieldsOf rows) ≡ faultFrom rows i)
 
 abbrev μ-loop : tie.MeasureT-loop
-μ-loop tb i₀ i = tb .n - i
+μ-loop rows tb i₀ i = rows .table .n - i
 
 loop-holds : tie.Need-loop-holds Inv-loop μ-loop
-loop-holds c = (search needs, fault-start (c .args .tb))
+loop-holds c = (search needs, fault-start (c .before .args .rows))
 
-row-check-requires : tie.Need-row-check-requires Inv-loop μ-loop
-row-check-requires c κs = search needs
+field-check-requires : tie.Need-field-check-requires Inv-loop μ-loop
+field-check-requires c κs = search needs
 
 enum-told : tie.Need-enum-told Inv-loop μ-loop
 enum-told c = search needs
@@ -34,8 +35,8 @@ loop-less c = search needs
 loop-again : tie.Need-loop-again Inv-loop μ-loop
 loop-again c =
     let l = c .before .before .before .before .before .loop in
-    let tb = c .before .before .before .before .before .before .args .tb in
-    (omega arith, l .inv .1 ∙ row-passed tb (l .i) (c .before .before .before .if1 .taken) (sym (c .before .before .row-check .ensures) ∙ c .enum-told .given .1))
+    let rows = c .before .before .before .before .before .before .before .args .rows in
+    (omega arith, l .inv .1 ∙ row-passed rows (l .i) (c .before .before .before .if1 .taken) (sym (c .before .before .field-check .ensures) ∙ c .enum-told .given .1))
 
 enum-known-number : tie.Need-enum-known-number Inv-loop μ-loop
 enum-known-number c = search needs
@@ -43,14 +44,14 @@ enum-known-number c = search needs
 returns : tie.Need-returns Inv-loop μ-loop
 returns c =
     let l = c .before .before .before .before .before .before .loop in
-    let tb = c .before .before .before .before .before .before .before .args .tb in
-    sym (ap checkedOf (l .inv .1) ∙ row-failed tb (l .i) (c .before .before .before .before .if1 .taken) (sym (c .before .before .before .row-check .ensures) ∙ c .before .number .given .1))
+    let rows = c .before .before .before .before .before .before .before .before .args .rows in
+    sym (ap checkedOf (l .inv .1) ∙ row-failed rows (l .i) (c .before .before .before .before .if1 .taken) (sym (c .before .before .before .field-check .ensures) ∙ c .before .number .given .1))
 
 returns-2 : tie.Need-returns-2 Inv-loop μ-loop
 returns-2 c =
     let l = c .before .before .loop in
-    let tb = c .before .before .before .args .tb in
-    sym (ap checkedOf (l .inv .1 ∙ fault-end tb (l .i) (c .if1 .left)))
+    let rows = c .before .before .before .before .args .rows in
+    sym (ap checkedOf (l .inv .1 ∙ fault-end rows (l .i) (c .if1 .left)))
 
 pub rows-check-spec : {M : Type 1} → statement M
 rows-check-spec =
@@ -59,7 +60,7 @@ rows-check-spec =
     Inv-loop
     μ-loop
     loop-holds
-    row-check-requires
+    field-check-requires
     enum-told
     add-i
     loop-less

@@ -3,8 +3,8 @@ use Prim.Native.Nat.{ℕ, suc, _+_, _-_, _≤_}
 use mathlib.Core.Path.{_≡_, sym, ap, _∙_}
 use native.Mathlib.Omega.{arith}
 use borrow.Author.Needs.{needs}
-use Rattle.table.specs.Walk.{sizeAt, startOf}
-use Rattle.table.proofs.Walked.{row-stands, start-next}
+use Rattle.table.specs.Walk.{sizeAt, startOf, tagAt}
+use Rattle.table.proofs.Walked.{header-stands, row-stands, size-within, start-next}
 use Rattle.table.proofs.scan.row_refusal.Statement.{statement}
 use Rattle.table.proofs.scan.row_refusal.Tie as tie
 
@@ -21,7 +21,7 @@ field-size-requires : tie.Need-field-size-requires Inv-loop μ-loop
 field-size-requires c κs =
     let l = c .before .loop in
     let start = c .before .before .before in
-    omega (arith, row-stands (start .args .s .now) (suc (start .args .row)) (l .k) (l .at) (start .pre .1) (omega arith) (l .inv .1) .1)
+    header-stands (start .args .s .now) (l .at) (row-stands (start .args .s .now) (suc (start .args .row)) (l .k) (l .at) (start .pre .1) (omega arith) (l .inv .1))
 
 add-at : tie.Need-add-at Inv-loop μ-loop
 add-at c =
@@ -52,7 +52,7 @@ field-size-requires-2 : tie.Need-field-size-requires-2 Inv-loop μ-loop
 field-size-requires-2 c κs =
     let l = c .before .loop in
     let start = c .before .before .before in
-    omega (arith, row-stands (start .args .s .now) (suc (start .args .row)) (l .k) (l .at) (start .pre .1) (omega arith) (l .inv .1) .1)
+    header-stands (start .args .s .now) (l .at) (row-stands (start .args .s .now) (suc (start .args .row)) (l .k) (l .at) (start .pre .1) (omega arith) (l .inv .1))
 
 returns : tie.Need-returns Inv-loop μ-loop
 returns c =

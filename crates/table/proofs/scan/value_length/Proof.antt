@@ -1,4 +1,4 @@
--- `table::scan::value_length` meets its contract: the two tags. Assumes nothing.
+-- `table::scan::value_length` meets its contract: the three tags. Assumes nothing.
 use borrow.Author.Tests.{eq-eqb, ne-eqb}
 use Rattle.table.proofs.scan.value_length.Statement.{statement}
 use Rattle.table.proofs.scan.value_length.Tie as tie
@@ -10,7 +10,10 @@ returns-2 : tie.Need-returns-2
 returns-2 c = simp (ne-eqb _ _ (c .before .if1 .left), eq-eqb _ _ (c .if2 .taken))
 
 returns-3 : tie.Need-returns-3
-returns-3 c = simp (ne-eqb _ _ (c .before .if1 .left), ne-eqb _ _ (c .if2 .left))
+returns-3 c = simp (ne-eqb _ _ (c .before .before .if1 .left), ne-eqb _ _ (c .before .if2 .left), eq-eqb _ _ (c .if3 .taken))
+
+returns-4 : tie.Need-returns-4
+returns-4 c = simp (ne-eqb _ _ (c .before .before .if1 .left), ne-eqb _ _ (c .before .if2 .left), ne-eqb _ _ (c .if3 .left))
 
 pub value-length-spec : {M : Type 1} → statement M
-value-length-spec = tie.close (tie.spec returns returns-2 returns-3)
+value-length-spec = tie.close (tie.spec returns returns-2 returns-3 returns-4)

@@ -1,5 +1,5 @@
 -- `table::writing::put_rows` meets its contract. The invariant: the bytes of the first i rows are put, and at is behind them. The measure is how many rows are left. Assumes nothing.
-use Prim.Native.Nat.{ℕ, _+_, _-_, _*_, _≤_}
+use Prim.Native.Nat.{ℕ, _+_, _-_, _≤_}
 use mathlib.Core.Path.{_≡_, ap, _∙_}
 use native.Mathlib.Omega.{arith}
 use lib.ListN.{length}
@@ -8,7 +8,7 @@ use borrow.Author.Needs.{needs}
 use Rattle.rules.specs.File.{rowBytes}
 use Rattle.wire.proofs.Stores.{stored-then}
 use Rattle.table.specs.Memory.{indexed, rowAt, rowsBytes}
-use Rattle.table.proofs.Rows.{bytes-at, bytes-more}
+use Rattle.table.proofs.Rows.{bytes-more, length-first, length-more}
 use Rattle.table.proofs.writing.put_rows.Statement.{statement}
 use Rattle.table.proofs.writing.put_rows.Tie as tie
 
@@ -42,18 +42,34 @@ element-copy-out-put-row-3 c = search needs
 element-copy-out-put-row-4 : tie.Need-element-copy-out-put-row-4 Inv-loop μ-loop
 element-copy-out-put-row-4 c = search needs
 
+mul-put-row-4 : tie.Need-mul-put-row-4 Inv-loop μ-loop
+mul-put-row-4 c = search needs
+
+element-copy-out-put-row-5 : tie.Need-element-copy-out-put-row-5 Inv-loop μ-loop
+element-copy-out-put-row-5 c = search needs
+
 put-row-requires : tie.Need-put-row-requires Inv-loop μ-loop
 put-row-requires c κs =
-    let l = c .before .before .before .before .before .before .loop in
-    let start = c .before .before .before .before .before .before .before .before in
+    let l = c .before .before .before .before .before .before .before .loop in
+    let start = c .before .before .before .before .before .before .before .before .before in
     let tb = start .args .t1 in
-    omega (arith, l .inv .1, l .inv .2, bytes-at tb (l .i), bytes-at tb (tb .n), start .pre .1)
+    omega (arith, l .inv .1, l .inv .2, length-more (rowAt tb) (l .i), length-first (rowAt tb) 0 (l .i + 1) (tb .n) (omega arith), start .pre .1)
+
+mul-row-size : tie.Need-mul-row-size Inv-loop μ-loop
+mul-row-size c = search needs
+
+element-copy-out-row-size : tie.Need-element-copy-out-row-size Inv-loop μ-loop
+element-copy-out-row-size c = search needs
+
+row-size-requires : tie.Need-row-size-requires Inv-loop μ-loop
+row-size-requires c κs = search needs
 
 add-at : tie.Need-add-at Inv-loop μ-loop
 add-at c =
-    let l = c .before .before .before .before .before .before .before .before .before .loop in
-    let start = c .before .before .before .before .before .before .before .before .before .before .before in
-    omega (arith, l .inv .2, bytes-at (start .args .t1) (l .i))
+    let l = c .before .before .before .before .before .before .before .before .before .before .before .before .loop in
+    let start = c .before .before .before .before .before .before .before .before .before .before .before .before .before .before in
+    let tb = start .args .t1 in
+    omega (arith, l .inv .2, length-more (rowAt tb) (l .i), length-first (rowAt tb) 0 (l .i + 1) (tb .n) (omega arith), start .pre .1, c .row-size .ensures)
 
 add-i : tie.Need-add-i Inv-loop μ-loop
 add-i c = search needs
@@ -63,13 +79,13 @@ loop-less c = search needs
 
 loop-again : tie.Need-loop-again Inv-loop μ-loop
 loop-again c =
-    let l = c .before .before .before .before .before .before .before .before .before .loop in
-    let a = c .before .before .before .before .before .before .before .before .before .before .before .args in
-    let call = c .before .before in
+    let call = c .before .before .before .before in
+    let l = call .before .before .before .before .before .before .before .before .loop in
+    let a = call .before .before .before .before .before .before .before .before .before .before .args in
     let rows = rowsBytes (indexed (rowAt (a .t1)) 0 (l .i)) in (
       omega arith,
       call .put-row .kept .0 ∙ l .inv .1,
-      omega (arith, l .inv .2, bytes-at (a .t1) (l .i), bytes-at (a .t1) (l .i + 1)),
+      omega (arith, l .inv .2, c .row-size .ensures, length-more (rowAt (a .t1)) (l .i)),
       stored-then rows (rowBytes (rowAt (a .t1) (l .i))) (a .out .now) 0 (l .at) (l .inv .3) (omega (arith, l .inv .2)) (call .put-row .ensures)
           ∙ ap (sets (a .out .now) 0) (bytes-more (rowAt (a .t1)) (l .i)),
     )
@@ -100,7 +116,12 @@ put-rows-spec =
     mul-put-row-3
     element-copy-out-put-row-3
     element-copy-out-put-row-4
+    mul-put-row-4
+    element-copy-out-put-row-5
     put-row-requires
+    mul-row-size
+    element-copy-out-row-size
+    row-size-requires
     add-at
     add-i
     loop-less

@@ -10,7 +10,7 @@ use Rattle.rules.specs.File.{fileBytes}
 use Rattle.wire.proofs.Stores.{stored-then}
 use Rattle.table.specs.Memory.{rowsBytes, rowsOf}
 use Rattle.table.specs.Answers.{writtenOf, outputAfter}
-use Rattle.table.proofs.Rows.{bytes-at, file-bytes, length-file, put-short, put-fits}
+use Rattle.table.proofs.Rows.{file-bytes, length-file, put-short, put-fits}
 use Rattle.table.proofs.writing.put_table.Statement.{statement}
 use Rattle.table.proofs.writing.put_table.Tie as tie
 
@@ -26,16 +26,14 @@ returns c =
 put-rows-requires : tie.Need-put-rows-requires
 put-rows-requires c κs =
     let start = c .before .before .before .before in
-    let tb = start .args .tb in
-    (start .pre, omega (arith, c .before .if1 .left, c .before .before .file-size .ensures, length-file tb, bytes-at tb (tb .n)))
+    (start .pre, omega (arith, c .before .if1 .left, c .before .before .file-size .ensures, length-file (rowsOf (start .args .tb))))
 
 put-end-requires : tie.Need-put-end-requires
 put-end-requires c κs =
     let rows = c .before .before .before in
     let start = rows .before .before .before .before .before in
-    let tb = start .args .tb in
     let kept : length (rows .put-rows .last .1 .0) ≡ length (start .args .out .now) = rows .put-rows .kept .1 .0 in
-    omega (arith, kept, rows .put-rows .ensures .0, rows .before .before .if1 .left, rows .before .before .before .file-size .ensures, length-file tb, bytes-at tb (tb .n))
+    omega (arith, kept, rows .put-rows .ensures .0, rows .before .before .if1 .left, rows .before .before .before .file-size .ensures, length-file (rowsOf (start .args .tb)))
 
 same-length : tie.Need-same-length
 same-length c = search needs
