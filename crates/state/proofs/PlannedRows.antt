@@ -56,6 +56,7 @@ module _ (ps : List PlannedRow) (few : length ps ≤ 16) where
     D = field-at (λ r. r .D) refl i k;
     T = field-at (λ r. r .T) refl i k;
     rank = field-at (λ r. r .rank) refl i k;
+    M = field-at (λ r. r .M) refl i k;
   }
 
   U-at : (i : ℕ) → entry (rows .u) i ≡ promotion (getD ps i noPlan .row) (getD ps i noPlan .R)
@@ -87,6 +88,7 @@ module _ (ps : List PlannedRow) (few : length ps ≤ 16) where
         field-past (λ r. r .T) refl i l,
         U-at i ∙ ap (λ p. promotion (p .row) (p .R)) (none-past i l),
         field-past (λ r. r .rank) refl i l,
+        field-past (λ r. r .M) refl i l,
       );
     };
     T-lt = narrow-at (λ r. r .T) (2 ^ 16) refl (lit< tt) (all-imp RowNarrow (λ r. r .T < 2 ^ 16) (λ r x. x .T-lt) rs narrow);

@@ -20,7 +20,7 @@ use Rattle.state.proofs.Positions.{all-rows, map-rows}
 
 -- beside the widths that the arrays keep
 pub record Widths (rows : Rows) (s : State) : Type 0 where
-  pub rows-lt : (i : ℕ) → (entry (rows .table .c) i < 2 ^ 16) × (entry (rows .table .d) i < 2 ^ 16) × (entry (rows .table .t) i < 2 ^ 16) × (entry (rows .u) i < 2 ^ 16)
+  pub rows-lt : (i : ℕ) → (entry (rows .table .c) i < 2 ^ 16) × (entry (rows .table .d) i < 2 ^ 16) × (entry (rows .table .t) i < 2 ^ 16) × (entry (rows .u) i < 2 ^ 16) × (entry (rows .table .m) i < 2 ^ 16)
   pub next-lt : s .next < 2 ^ 32
   pub run-lt : (i : ℕ) → entry (s .run) i < 2 ^ 16
   pub firms-lt : (j : ℕ) → (entry (s .ticket) j < 2 ^ 32) × (entry (s .budget) j < 2 ^ 16) × (entry (s .used) j < 2 ^ 16)
@@ -60,7 +60,7 @@ module _ (rows : Rows) (s : State) (S : Stored rows s) where
 
   -- every width
 
-  row-lt : (i : ℕ) → Dec (i < rows .table .n) → (entry (rows .table .c) i < 2 ^ 16) × (entry (rows .table .d) i < 2 ^ 16) × (entry (rows .table .t) i < 2 ^ 16) × (entry (rows .u) i < 2 ^ 16)
+  row-lt : (i : ℕ) → Dec (i < rows .table .n) → (entry (rows .table .c) i < 2 ^ 16) × (entry (rows .table .d) i < 2 ^ 16) × (entry (rows .table .t) i < 2 ^ 16) × (entry (rows .u) i < 2 ^ 16) × (entry (rows .table .m) i < 2 ^ 16)
   row-lt i (yes h) = omega (arith, row-good i h, thin i h)
   row-lt i (no h) = omega (arith, S .kept .table .past i (omega arith))
 

@@ -64,7 +64,7 @@ stationOf rows s = record { clock = s .clock; slots = slotsOf rows s; firms = fi
 pub record TableKept (rows : Rows) : Type 0 where
   pub few : rows .table .n ≤ 16
   pub rank-lt : (i : ℕ) → entry (rows .table .rank) i < 2 ^ 8
-  pub past : (i : ℕ) → rows .table .n ≤ i → (entry (rows .table .c) i ≡ 0) × (entry (rows .table .d) i ≡ 0) × (entry (rows .table .t) i ≡ 0) × (entry (rows .u) i ≡ 0) × (entry (rows .table .rank) i ≡ 0)
+  pub past : (i : ℕ) → rows .table .n ≤ i → (entry (rows .table .c) i ≡ 0) × (entry (rows .table .d) i ≡ 0) × (entry (rows .table .t) i ≡ 0) × (entry (rows .u) i ≡ 0) × (entry (rows .table .rank) i ≡ 0) × (entry (rows .table .m) i ≡ 0)
 
 -- where the rested mark is not set, the last release is less than T ticks ago; the stamp of a rested row is 0
 pub record TimesKept (rows : Rows) (clock rested : ℕ) (stamp : List ℕ) : Type 0 where
