@@ -36,12 +36,14 @@ unrun-requires : tie.Need-unrun-requires
 unrun-requires c κs = search needs
 
 add-firm : tie.Need-add-firm
-add-firm c = let a = c .before .before .before .before .before .before .args in omega (arith, unrun-le (a .s) (search needs) (λ i. fits-lt (search needs)))
+add-firm c =
+    let a = c .before .before .before .before .before .before .args in
+    omega (arith, unrun-le (a .s) (search needs) (λ i. fits-lt (search (needs, c .before .before .before .before .before .before .good .1))))
 
 add-if4 : tie.Need-add-if4
 add-if4 c =
     let a = c .before .before .before .before .before .before .args in
-    omega (arith, unrun-le (a .s) (search needs) (λ i. fits-lt (search needs)), claims-le (a .rows) (a .s) (a .deadline) (λ i. fits-lt (search needs)) (search needs))
+    omega (arith, unrun-le (a .s) (search needs) (λ i. fits-lt (search (needs, c .before .before .before .before .before .before .good .1))), claims-le (a .rows) (a .s) (a .deadline) (λ i. fits-lt (search needs)) (search needs))
 
 queued-requires : tie.Need-queued-requires
 queued-requires c κs = search needs
