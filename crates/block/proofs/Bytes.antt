@@ -7,7 +7,7 @@ use Rattle.rules.specs.Tables.{Bytes}
 use Rattle.state.specs.declared.Rows.{Rows}
 use Rattle.state.specs.declared.State.{State}
 use Rattle.state.specs.Meaning.{entry}
-use Rattle.block.specs.Places.{C-at, D-at, T-at, U-at, budget-at, clock-at, count-at, last-at, n-at, next-at, open-at, rank-at, reserved-bytes, rested-at, run-at, stamp-at, ticket-at, used-at}
+use Rattle.block.specs.Places.{C-at, D-at, M-at, T-at, U-at, budget-at, clock-at, count-at, last-at, n-at, next-at, open-at, rank-at, reserved-bytes, rested-at, run-at, stamp-at, ticket-at, used-at}
 use Rattle.block.specs.Words.{joined, le16Bytes, le32Bytes}
 use Rattle.block.specs.Layout.{Long, headBytes, imageOf, jobsBytes, queueBytes, reserved, rowsAt, stateAt, tableBytes}
 use Rattle.block.proofs.Arrays.{joined-bytes, numbers-below, read-long}
@@ -49,7 +49,8 @@ module _ (rows : Rows) (s : State) (F : Fit rows s) where
       (then (then (array form16 (rows .table .c) (F .c-lt)) (then (array form16 (rows .table .d) (F .d-lt)) (then (array form16 (rows .table .t) (F .t-lt)) (array form16 (rows .u) (F .u-lt)))))
       (then (then (array form16 (s .run) (F .run-lt)) (array form32 (s .stamp) (F .stamp-lt)))
       (then (array form8 (rows .table .rank) (F .rank-lt))
-      (then (then (array form16 (s .budget) (F .budget-lt)) (then (array form16 (s .used) (F .used-lt)) (array form32 (s .ticket) (F .ticket-lt)))) reserved-clean))))
+      (then (then (array form16 (s .budget) (F .budget-lt)) (then (array form16 (s .used) (F .used-lt)) (array form32 (s .ticket) (F .ticket-lt))))
+      (then (array form16 (rows .table .m) (F .m-lt)) reserved-clean)))))
 
   pub image-bytes : Bytes (imageOf rows s)
   image-bytes = image-clean .bytes
@@ -63,6 +64,7 @@ long-at b = record {
   t-long = read-long form16 b T-at 16;
   u-long = read-long form16 b U-at 16;
   rank-long = read-long form8 b rank-at 16;
+  m-long = read-long form16 b M-at 16;
   run-long = read-long form16 b run-at 16;
   stamp-long = read-long form32 b stamp-at 16;
   budget-long = read-long form16 b budget-at 8;
@@ -79,6 +81,7 @@ module _ (b : List ℕ) (bytes : Bytes b) where
     t-lt = numbers-below form16 b bytes T-at 16;
     u-lt = numbers-below form16 b bytes U-at 16;
     rank-lt = numbers-below form8 b bytes rank-at 16;
+    m-lt = numbers-below form16 b bytes M-at 16;
     clock-lt = form32 .below b bytes clock-at;
     next-lt = form32 .below b bytes next-at;
     open-lt = form16 .below b bytes open-at;

@@ -8,16 +8,16 @@ use Rattle.state.specs.declared.Rows.{Rows}
 use Rattle.state.specs.declared.State.{State}
 use Rattle.state.specs.Meaning.{entry}
 use Rattle.state.specs.Sets.{known}
-use Rattle.block.specs.Places.{C-at, D-at, T-at, U-at, budget-at, clock-at, count-at, last-at, n-at, next-at, open-at, rank-at, rested-at, run-at, stamp-at, ticket-at, used-at}
+use Rattle.block.specs.Places.{C-at, D-at, M-at, T-at, U-at, budget-at, clock-at, count-at, last-at, n-at, next-at, open-at, rank-at, rested-at, run-at, stamp-at, ticket-at, used-at}
 use Rattle.block.specs.Words.{le16, le16sAt, le32, le32sAt, le8sAt}
 use Rattle.block.specs.Layout.{rowsAt, stateAt}
 use Rattle.block.specs.Tests.{imageGood, jobsGood, queueGood, restGood, tableGood, timesGood}
 
 module _ (b : List ℕ) where
-  pub rows-read : {n : ℕ} {c d t u rank : List ℕ}
-      → n ≡ entry b n-at → c ≡ le16sAt b C-at 16 → d ≡ le16sAt b D-at 16 → t ≡ le16sAt b T-at 16 → u ≡ le16sAt b U-at 16 → rank ≡ le8sAt b rank-at 16
-      → _≡_ {A = Rows} (record { table = record { n = n; c = c; d = d; t = t; rank = rank }; u = u }) (rowsAt b)
-  rows-read n c d t u rank = rw (n, c, d, t, u, rank)
+  pub rows-read : {n : ℕ} {c d t u rank m : List ℕ}
+      → n ≡ entry b n-at → c ≡ le16sAt b C-at 16 → d ≡ le16sAt b D-at 16 → t ≡ le16sAt b T-at 16 → u ≡ le16sAt b U-at 16 → rank ≡ le8sAt b rank-at 16 → m ≡ le16sAt b M-at 16
+      → _≡_ {A = Rows} (record { table = record { n = n; c = c; d = d; t = t; rank = rank; m = m }; u = u }) (rowsAt b)
+  rows-read n c d t u rank m = rw (n, c, d, t, u, rank, m)
 
   pub state-read : {clock next o rested last count : ℕ} {run stamp budget used ticket : List ℕ}
       → clock ≡ le32 b clock-at → next ≡ le32 b next-at → o ≡ le16 b open-at → rested ≡ le16 b rested-at → last ≡ entry b last-at → count ≡ entry b count-at

@@ -28,6 +28,7 @@ use Rattle.block.specs.Image.{Imaged}
 use Rattle.block.proofs.Bits.{in-known}
 use Rattle.block.proofs.Entered.{entry-out, rows-hold, rows-run}
 use Rattle.block.proofs.Numbers.{FirmSays, HardSays, behind-next, firm-says, hard-says, stamp-quiet, stamp-young, to-runs, to-tickets}
+use Rattle.block.proofs.Ors.{or-none}
 use Rattle.block.proofs.RankSets.{set-once}
 use Rattle.block.proofs.Tested.{Checked, last-low, lastTest}
 use Rattle.block.proofs.Trip.{Fit}
@@ -55,8 +56,8 @@ module _ (rows : Rows) (s : State) (L : Long rows s) (F : Fit rows s) (C : Check
 
   -- a row
 
-  says : (i : ℕ) → i < 16 → HardSays (ltb i (rows .table .n)) (bit (s .«open») i) (eqb i (s .last)) (entry (rows .table .c) i) (entry (rows .table .d) i) (entry (rows .table .t) i) (entry (rows .u) i) (entry (s .run) i)
-  says i h = hard-says (ltb i (rows .table .n)) (bit (s .«open») i) (eqb i (s .last)) (entry (rows .table .c) i) (entry (rows .table .d) i) (entry (rows .table .t) i) (entry (rows .u) i) (entry (s .run) i) (C .row i h)
+  says : (i : ℕ) → i < 16 → HardSays (ltb i (rows .table .n)) (bit (s .«open») i) (eqb i (s .last)) (entry (rows .table .c) i) (entry (rows .table .d) i) (entry (rows .table .t) i) (entry (rows .u) i) (entry (rows .table .m) i) (entry (s .run) i)
+  says i h = hard-says (ltb i (rows .table .n)) (bit (s .«open») i) (eqb i (s .last)) (entry (rows .table .c) i) (entry (rows .table .d) i) (entry (rows .table .t) i) (entry (rows .u) i) (entry (rows .table .m) i) (entry (s .run) i) (C .row i h)
 
   C-pos : (i : ℕ) → i < rows .table .n → 1 ≤ entry (rows .table .c) i
   C-pos i h =
@@ -66,7 +67,7 @@ module _ (rows : Rows) (s : State) (L : Long rows s) (F : Fit rows s) (C : Check
 
   -- no row stands there
   abbrev Blank : ℕ → Type 0
-  Blank i = (entry (rows .table .c) i ≡ 0) × (entry (rows .table .d) i ≡ 0) × (entry (rows .table .t) i ≡ 0) × (entry (rows .u) i ≡ 0) × (entry (rows .table .rank) i ≡ 0)
+  Blank i = (entry (rows .table .c) i ≡ 0) × (entry (rows .table .d) i ≡ 0) × (entry (rows .table .t) i ≡ 0) × (entry (rows .u) i ≡ 0) × (entry (rows .table .rank) i ≡ 0) × (entry (rows .table .m) i ≡ 0)
 
   row-past : (i : ℕ) → rows .table .n ≤ i → Blank i
   row-past i h = by-place (Blank i) i 16 inside outside
@@ -74,11 +75,11 @@ module _ (rows : Rows) (s : State) (L : Long rows s) (F : Fit rows s) (C : Check
       inside : i < 16 → Blank i
       inside l =
           let R = says i l in
-          let T-zero : entry (rows .table .t) i ≡ 0 = rw (le-ltb i (rows .table .n) h) at (R .there) in
-          (omega (arith, R .C-le, R .D-le), omega (arith, R .D-le), T-zero, omega (arith, R .U-le, R .D-le), C .rank-past i l h)
+          let (T-zero, M-zero) = or-none (entry (rows .table .t) i) (entry (rows .table .m) i) (rw (le-ltb i (rows .table .n) h) at (R .there)) in
+          (omega (arith, R .C-le, R .D-le), omega (arith, R .D-le), T-zero, omega (arith, R .U-le, R .D-le), C .rank-past i l h, M-zero)
 
       outside : 16 ≤ i → Blank i
-      outside g = (entry-out (rows .table .c) 16 i (L .c-long) g, entry-out (rows .table .d) 16 i (L .d-long) g, entry-out (rows .table .t) 16 i (L .t-long) g, entry-out (rows .u) 16 i (L .u-long) g, entry-out (rows .table .rank) 16 i (L .rank-long) g)
+      outside g = (entry-out (rows .table .c) 16 i (L .c-long) g, entry-out (rows .table .d) 16 i (L .d-long) g, entry-out (rows .table .t) 16 i (L .t-long) g, entry-out (rows .u) 16 i (L .u-long) g, entry-out (rows .table .rank) 16 i (L .rank-long) g, entry-out (rows .table .m) 16 i (L .m-long) g)
 
   open-in : (i : ℕ) → rows .table .n ≤ i → bit (s .«open») i ≡ false
   open-in i h = in-known (rows .table .n) (s .«open») i (C .few) (C .open-le) h

@@ -14,34 +14,40 @@ use Rattle.rules.proofs.Facts.{Runs, TicketsTo, closed-not-open}
 use Rattle.rules.proofs.ImageTests.{opened-same}
 use Rattle.state.specs.Meaning.{rowsFrom, wrapped}
 use Rattle.state.proofs.Positions.{length-rows}
-use Rattle.block.specs.Tests.{firmFault, hardFault, mostRun, stampFault}
+use Rattle.block.specs.Tests.{due, firmFault, hardFault, mostRun, stampFault}
 use Rattle.block.proofs.Ors.{none-or, or-none}
 
 -- a row
 
-pub record HardSays (live o ran : Bool) (c d t u run : ℕ) : Type 0 where
+pub record HardSays (live o ran : Bool) (c d t u m run : ℕ) : Type 0 where
   pub C-le : c ≤ d
   pub D-le : d ≤ t
-  pub U-le : u + c ≤ d
-  pub there : cond live (1 - c) t ≡ 0
+  pub U-le : u + c + m ≤ d
+  pub there : cond live (1 - c) (bitOr t m) ≡ 0
   pub runs : run ≤ cond o (mostRun ran c) 0
 
-module _ (live o ran : Bool) (c d t u run : ℕ) where
-  pub hard-says : hardFault live o ran c d t u run ≡ 0 → HardSays live o ran c d t u run
+-- what the margin leaves holds C ≥ 1; where there is no row it is 0
+margin-le : (live : Bool) (c d t m : ℕ) → c ≤ due d m → cond live (1 - c) (bitOr t m) ≡ 0 → m ≤ d
+margin-le true c d t m h e = omega arith
+margin-le false c d t m h e = omega (arith, or-none t m e)
+
+module _ (live o ran : Bool) (c d t u m run : ℕ) where
+  pub hard-says : hardFault live o ran c d t u m run ≡ 0 → HardSays live o ran c d t u m run
   unfolding hardFault
   hard-says e =
-      let (e4, r) = or-none (bitOr (bitOr (bitOr (c - d) (d - t)) (u - (d - c))) (cond live (1 - c) t)) (run - cond o (mostRun ran c) 0) e in
-      let (e3, l) = or-none (bitOr (bitOr (c - d) (d - t)) (u - (d - c))) (cond live (1 - c) t) e4 in
-      let (e2, w) = or-none (bitOr (c - d) (d - t)) (u - (d - c)) e3 in
-      let (a, b) = or-none (c - d) (d - t) e2 in
+      let (e4, r) = or-none (bitOr (bitOr (bitOr (c - due d m) (d - t)) (u - (due d m - c))) (cond live (1 - c) (bitOr t m))) (run - cond o (mostRun ran c) 0) e in
+      let (e3, l) = or-none (bitOr (bitOr (c - due d m) (d - t)) (u - (due d m - c))) (cond live (1 - c) (bitOr t m)) e4 in
+      let (e2, w) = or-none (bitOr (c - due d m) (d - t)) (u - (due d m - c)) e3 in
+      let (a, b) = or-none (c - due d m) (d - t) e2 in
+      let M-le = margin-le live c d t m (omega arith) l in
       record { C-le = omega arith; D-le = omega arith; U-le = omega arith; there = l; runs = omega arith }
 
-  pub says-hard : HardSays live o ran c d t u run → hardFault live o ran c d t u run ≡ 0
+  pub says-hard : HardSays live o ran c d t u m run → hardFault live o ran c d t u m run ≡ 0
   unfolding hardFault
   says-hard R =
-      none-or (bitOr (bitOr (bitOr (c - d) (d - t)) (u - (d - c))) (cond live (1 - c) t)) (run - cond o (mostRun ran c) 0)
-      (none-or (bitOr (bitOr (c - d) (d - t)) (u - (d - c))) (cond live (1 - c) t)
-      (none-or (bitOr (c - d) (d - t)) (u - (d - c)) (none-or (c - d) (d - t) (omega (arith, R .C-le)) (omega (arith, R .D-le))) (omega (arith, R .U-le, R .C-le)))
+      none-or (bitOr (bitOr (bitOr (c - due d m) (d - t)) (u - (due d m - c))) (cond live (1 - c) (bitOr t m))) (run - cond o (mostRun ran c) 0)
+      (none-or (bitOr (bitOr (c - due d m) (d - t)) (u - (due d m - c))) (cond live (1 - c) (bitOr t m))
+      (none-or (bitOr (c - due d m) (d - t)) (u - (due d m - c)) (none-or (c - due d m) (d - t) (omega (arith, R .U-le)) (omega (arith, R .D-le))) (omega (arith, R .U-le)))
       (R .there))
       (omega (arith, R .runs))
 

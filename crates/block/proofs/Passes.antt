@@ -4,6 +4,7 @@ use mathlib.Core.Bool.{Bool, cond, false, false≢true, not, true, true≢false,
 use mathlib.Core.List.{List}
 use mathlib.Core.Path.{refl, sym, _∙_, _≡_}
 use borrow.Author.Tests.{eq-eqb, eqb-false, eqb-true, le-ltb, leb-true, lt-ltb, ltb-false, ltb-true, ne-eqb}
+use lib.Bits.{bitOr}
 use lib.Dec.{eqb, leb, ltb}
 use native.Mathlib.Decide.{decLt}
 use native.Mathlib.Omega.{arith}
@@ -27,6 +28,7 @@ use Rattle.block.specs.Image.{Imaged}
 use Rattle.block.proofs.Bits.{known-in}
 use Rattle.block.proofs.Meant.{last-is}
 use Rattle.block.proofs.Numbers.{behind-next, from-runs, from-tickets, not-first, says-firm, says-hard, stamp-says}
+use Rattle.block.proofs.Ors.{none-or}
 use Rattle.block.proofs.RankSets.{once-set, rank-lt}
 use Rattle.block.proofs.Tested.{Checked, lastTest}
 use Rattle.block.proofs.Trip.{Fit}
@@ -79,8 +81,8 @@ module _ (rows : Rows) (s : State) (I : Imaged rows s) where
   ranks-ok = tableFault-iff (rowsFrom (rowAt (rows .table)) 0 (rows .table .n)) .0 (table .no-fault) .1
 
   -- a row in order, or none
-  in-order : (i : ℕ) → (entry (rows .table .c) i ≤ entry (rows .table .d) i) × (entry (rows .table .d) i ≤ entry (rows .table .t) i) × (entry (rows .u) i + entry (rows .table .c) i ≤ entry (rows .table .d) i)
-  in-order i = row-case (λ k. (entry (rows .table .c) k ≤ entry (rows .table .d) k) × (entry (rows .table .d) k ≤ entry (rows .table .t) k) × (entry (rows .u) k + entry (rows .table .c) k ≤ entry (rows .table .d) k)) i
+  in-order : (i : ℕ) → (entry (rows .table .c) i ≤ entry (rows .table .d) i) × (entry (rows .table .d) i ≤ entry (rows .table .t) i) × (entry (rows .u) i + entry (rows .table .c) i + entry (rows .table .m) i ≤ entry (rows .table .d) i)
+  in-order i = row-case (λ k. (entry (rows .table .c) k ≤ entry (rows .table .d) k) × (entry (rows .table .d) k ≤ entry (rows .table .t) k) × (entry (rows .u) k + entry (rows .table .c) k + entry (rows .table .m) k ≤ entry (rows .table .d) k)) i
       (λ l. let G = row-good rows s (I .stored) i l in (omega (arith, G .U-le), G .D-le, G .U-le))
       (λ g. omega (arith, K .table .past i g))
 
@@ -104,6 +106,7 @@ module _ (rows : Rows) (s : State) (I : Imaged rows s) where
     t-lt = λ i. W .rows-lt i .2;
     u-lt = λ i. W .rows-lt i .3;
     rank-lt = K .table .rank-lt;
+    m-lt = λ i. W .rows-lt i .4;
     clock-lt = K .times .clock-lt;
     next-lt = W .next-lt;
     open-lt = K .jobs .open-lt;
@@ -119,10 +122,10 @@ module _ (rows : Rows) (s : State) (I : Imaged rows s) where
 
   -- the tests
 
-  there : (i : ℕ) → cond (ltb i (rows .table .n)) (1 - entry (rows .table .c) i) (entry (rows .table .t) i) ≡ 0
-  there i = row-case (λ k. cond (ltb k (rows .table .n)) (1 - entry (rows .table .c) k) (entry (rows .table .t) k) ≡ 0) i
+  there : (i : ℕ) → cond (ltb i (rows .table .n)) (1 - entry (rows .table .c) i) (bitOr (entry (rows .table .t) i) (entry (rows .table .m) i)) ≡ 0
+  there i = row-case (λ k. cond (ltb k (rows .table .n)) (1 - entry (rows .table .c) k) (bitOr (entry (rows .table .t) k) (entry (rows .table .m) k)) ≡ 0) i
       (λ l. rw (lt-ltb i (rows .table .n) l) (omega (arith, row-good rows s (I .stored) i l .C-pos)))
-      (λ g. rw (le-ltb i (rows .table .n) g) (K .table .past i g .2))
+      (λ g. let Z = K .table .past i g in rw (le-ltb i (rows .table .n) g) (none-or (entry (rows .table .t) i) (entry (rows .table .m) i) (Z .2) (Z .5)))
 
   -- quiet: rested, or not there
   quiet : (i : ℕ) → (bit (s .rested) i || not (ltb i (rows .table .n))) ≡ true → entry (s .stamp) i ≡ 0
@@ -211,7 +214,7 @@ module _ (rows : Rows) (s : State) (I : Imaged rows s) where
   passes = record {
     few = K .table .few;
     firms-few = K .queue .few;
-    row = λ i h. says-hard (ltb i (rows .table .n)) (bit (s .«open») i) (eqb i (s .last)) (entry (rows .table .c) i) (entry (rows .table .d) i) (entry (rows .table .t) i) (entry (rows .u) i) (entry (s .run) i)
+    row = λ i h. says-hard (ltb i (rows .table .n)) (bit (s .«open») i) (eqb i (s .last)) (entry (rows .table .c) i) (entry (rows .table .d) i) (entry (rows .table .t) i) (entry (rows .u) i) (entry (rows .table .m) i) (entry (s .run) i)
         (record { C-le = in-order i .0; D-le = in-order i .1; U-le = in-order i .2; there = there i; runs = run-le i });
     stamp = λ i h. stamp-says (bit (s .rested) i || not (ltb i (rows .table .n))) (entry (rows .table .t) i) (s .clock) (entry (s .stamp) i) (quiet i) (young i);
     firm = λ j h. says-firm (ltb j (s .count)) (eqb j 0 && eqb 16 (s .last)) (entry (s .budget) j) (entry (s .used) j) (record { there = firm-there j; runs = firm-runs j });

@@ -14,7 +14,7 @@ use Rattle.state.specs.declared.State.{State}
 use Rattle.state.specs.Meaning.{entry}
 use Rattle.block.specs.declared.Decoded.{Decoded}
 use Rattle.block.specs.Places.{block-bytes, budget-at, clock-at, count-at, reserved-at, reserved-bytes, run-at}
-use Rattle.block.specs.Layout.{Long, headBytes, imageOf, jobsBytes, marksBytes, numbersBytes, queueBytes, ranksBytes, reserved, rowsAt, stateAt, stateOn, tableBytes}
+use Rattle.block.specs.Layout.{Long, headBytes, imageOf, jobsBytes, marginsBytes, marksBytes, numbersBytes, queueBytes, ranksBytes, reserved, rowsAt, stateAt, stateOn, tableBytes}
 use Rattle.block.specs.Tests.{decodedAs, decodedOf, imageGood, refusedBlock}
 use Rattle.block.specs.Image.{BlockPromises, Imaged}
 use Rattle.block.proofs.Bytes
@@ -100,20 +100,21 @@ module _ (rows : Rows) (s after : State) (L : Long rows s) (M : Long rows after)
       ∙ over (head ++ tableBytes rows) (jobsBytes s) (jobsBytes after) rest run-at long (omega (arith, jobs-long rows s L, jobs-long rows after M))
       ∙ sym (regroup-3 head (tableBytes rows) (jobsBytes after ++ rest))
 
-  queue-over : sets (head ++ (tableBytes rows ++ (jobsBytes after ++ (ranksBytes rows ++ (queueBytes s ++ reserved))))) budget-at (queueBytes after)
-      ≡ head ++ (tableBytes rows ++ (jobsBytes after ++ (ranksBytes rows ++ (queueBytes after ++ reserved))))
-  queue-over =
+  queue-over : (rest : List ℕ) → sets (head ++ (tableBytes rows ++ (jobsBytes after ++ (ranksBytes rows ++ (queueBytes s ++ rest))))) budget-at (queueBytes after)
+      ≡ head ++ (tableBytes rows ++ (jobsBytes after ++ (ranksBytes rows ++ (queueBytes after ++ rest))))
+  queue-over rest =
       let front = ((head ++ tableBytes rows) ++ jobsBytes after) ++ ranksBytes rows in
       let long : length front ≡ budget-at = simp length-append (omega (arith, head-long (rows .table .n) after, table-long rows s L, jobs-long rows after M, ranks-long rows s L)) in
-      ap (λ l. sets l budget-at (queueBytes after)) (regroup-5 head (tableBytes rows) (jobsBytes after) (ranksBytes rows) (queueBytes s ++ reserved))
-      ∙ over front (queueBytes s) (queueBytes after) reserved budget-at long (omega (arith, queue-long rows s L, queue-long rows after M))
-      ∙ sym (regroup-5 head (tableBytes rows) (jobsBytes after) (ranksBytes rows) (queueBytes after ++ reserved))
+      ap (λ l. sets l budget-at (queueBytes after)) (regroup-5 head (tableBytes rows) (jobsBytes after) (ranksBytes rows) (queueBytes s ++ rest))
+      ∙ over front (queueBytes s) (queueBytes after) rest budget-at long (omega (arith, queue-long rows s L, queue-long rows after M))
+      ∙ sym (regroup-5 head (tableBytes rows) (jobsBytes after) (ranksBytes rows) (queueBytes after ++ rest))
 
   pub write-image : stateOn (imageOf rows s) after ≡ imageOf rows after
   unfolding stateOn imageOf
   write-image =
-      ap (λ l. sets l budget-at (queueBytes after)) (ap (λ l. sets l run-at (jobsBytes after)) (head-over (tableBytes rows ++ (jobsBytes s ++ (ranksBytes rows ++ (queueBytes s ++ reserved))))) ∙ jobs-over (ranksBytes rows ++ (queueBytes s ++ reserved)))
-      ∙ queue-over
+      let kept = marginsBytes rows ++ reserved in
+      ap (λ l. sets l budget-at (queueBytes after)) (ap (λ l. sets l run-at (jobsBytes after)) (head-over (tableBytes rows ++ (jobsBytes s ++ (ranksBytes rows ++ (queueBytes s ++ kept))))) ∙ jobs-over (ranksBytes rows ++ (queueBytes s ++ kept)))
+      ∙ queue-over kept
 
 pub block-promises : BlockPromises
 block-promises = record {

@@ -17,7 +17,7 @@ use Rattle.state.specs.Sets.{known, others}
 use Rattle.state.specs.declared.Rows.{Rows}
 use Rattle.state.specs.declared.State.{State}
 use Rattle.state.proofs.Bits.{bit-known, bit-or, bit-others, known-lt}
-use Rattle.block.specs.Places.{C-at, D-at, T-at, U-at, budget-at, clock-at, count-at, free-at, last-at, n-at, next-at, open-at, rank-at, reserved-at, reserved-bytes, rested-at, run-at, stamp-at, ticket-at, used-at}
+use Rattle.block.specs.Places.{C-at, D-at, M-at, T-at, U-at, budget-at, clock-at, count-at, free-at, last-at, n-at, next-at, open-at, rank-at, reserved-at, reserved-bytes, rested-at, run-at, stamp-at, ticket-at, used-at}
 use Rattle.block.specs.Words.{le16, le16sAt, le32}
 use Rattle.block.specs.Layout.{rowsAt, stateAt}
 use Rattle.block.specs.Tests
@@ -36,7 +36,7 @@ lastTest s =
 pub record Checked (rows : Rows) (s : State) : Type 0 where
   pub few : rows .table .n ≤ 16
   pub firms-few : s .count ≤ 8
-  pub row : (i : ℕ) → i < 16 → hardFault (ltb i (rows .table .n)) (bit (s .«open») i) (eqb i (s .last)) (entry (rows .table .c) i) (entry (rows .table .d) i) (entry (rows .table .t) i) (entry (rows .u) i) (entry (s .run) i) ≡ 0
+  pub row : (i : ℕ) → i < 16 → hardFault (ltb i (rows .table .n)) (bit (s .«open») i) (eqb i (s .last)) (entry (rows .table .c) i) (entry (rows .table .d) i) (entry (rows .table .t) i) (entry (rows .u) i) (entry (rows .table .m) i) (entry (s .run) i) ≡ 0
   pub stamp : (i : ℕ) → i < 16 → stampFault (bit (s .rested) i || not (ltb i (rows .table .n))) (entry (rows .table .t) i) (s .clock) (entry (s .stamp) i) ≡ 0
   pub firm : (j : ℕ) → j < 8 → firmFault (ltb j (s .count)) (eqb j 0 && eqb 16 (s .last)) (entry (s .budget) j) (entry (s .used) j) ≡ 0
   pub ticket : (j : ℕ) → j < 8 → entry (s .ticket) j ≡ cond (ltb j (s .count)) ((wrapped (s .next) (s .count) + j) % 2 ^ 32) 0
@@ -163,9 +163,9 @@ module _ (b : List ℕ) where
       go false e = rw (firm-entry used-at 0 (omega arith))
 
   module _ (few : rows .table .n ≤ 16) (firms-few : s .count ≤ 8) (last-le : s .last ≤ 17) where
-    hard-same : (i : ℕ) → i < 16 → hardFault (ltb i (rows .table .n)) (bit (s .«open») i) (eqb i (s .last)) (entry (rows .table .c) i) (entry (rows .table .d) i) (entry (rows .table .t) i) (entry (rows .u) i) (entry (s .run) i)
+    hard-same : (i : ℕ) → i < 16 → hardFault (ltb i (rows .table .n)) (bit (s .«open») i) (eqb i (s .last)) (entry (rows .table .c) i) (entry (rows .table .d) i) (entry (rows .table .t) i) (entry (rows .u) i) (entry (rows .table .m) i) (entry (s .run) i)
         ≡ Tests.hardFaultAt b (known (rows .table .n)) (s .«open») (rowMark (s .last)) i
-    hard-same i h = rw (row-entry C-at i h, row-entry D-at i h, row-entry T-at i h, row-entry U-at i h, row-entry run-at i h, ← bit-known (rows .table .n) i few, ← row-mark (s .last) i last-le h)
+    hard-same i h = rw (row-entry C-at i h, row-entry D-at i h, row-entry T-at i h, row-entry U-at i h, row-entry M-at i h, row-entry run-at i h, ← bit-known (rows .table .n) i few, ← row-mark (s .last) i last-le h)
 
     stamp-same : (i : ℕ) → i < 16 → stampFault (bit (s .rested) i || not (ltb i (rows .table .n))) (entry (rows .table .t) i) (s .clock) (entry (s .stamp) i)
         ≡ Tests.stampFaultAt b (bitOr (s .rested) (others (known (rows .table .n)))) (s .clock) i

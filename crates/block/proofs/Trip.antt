@@ -7,7 +7,7 @@ use native.Mathlib.Omega.{arith}
 use Rattle.state.specs.declared.Rows.{Rows}
 use Rattle.state.specs.declared.State.{State}
 use Rattle.state.specs.Meaning.{entry}
-use Rattle.block.specs.Places.{C-at, D-at, T-at, U-at, budget-at, clock-at, count-at, free-at, last-at, n-at, next-at, open-at, rank-at, reserved-at, rested-at, run-at, stamp-at, ticket-at, used-at}
+use Rattle.block.specs.Places.{C-at, D-at, M-at, T-at, U-at, budget-at, clock-at, count-at, free-at, last-at, n-at, next-at, open-at, rank-at, reserved-at, rested-at, run-at, stamp-at, ticket-at, used-at}
 use Rattle.block.specs.Words.{joined, le16, le16Bytes, le32, le32Bytes, le8Bytes}
 use Rattle.block.specs.Layout.{Long, headBytes, imageOf, jobsBytes, queueBytes, reserved, rowsAt, stateAt, tableBytes}
 use Rattle.block.proofs.Arrays.{joined-long, numbers-back}
@@ -22,6 +22,7 @@ pub record Fit (rows : Rows) (s : State) : Type 0 where
   pub t-lt : (i : ℕ) → entry (rows .table .t) i < 2 ^ 16
   pub u-lt : (i : ℕ) → entry (rows .u) i < 2 ^ 16
   pub rank-lt : (i : ℕ) → entry (rows .table .rank) i < 2 ^ 8
+  pub m-lt : (i : ℕ) → entry (rows .table .m) i < 2 ^ 16
   pub clock-lt : s .clock < 2 ^ 32
   pub next-lt : s .next < 2 ^ 32
   pub open-lt : s .«open» < 2 ^ 16
@@ -37,8 +38,11 @@ pub record Fit (rows : Rows) (s : State) : Type 0 where
 module _ (rows : Rows) (s : State) (L : Long rows s) (F : Fit rows s) where
   -- the arrays, one behind the other
 
+  abbrev margins : List ℕ
+  margins = joined le16Bytes (rows .table .m) ++ reserved
+
   abbrev firms : List ℕ
-  firms = joined le16Bytes (s .budget) ++ (joined le16Bytes (s .used) ++ (joined le32Bytes (s .ticket) ++ reserved))
+  firms = joined le16Bytes (s .budget) ++ (joined le16Bytes (s .used) ++ (joined le32Bytes (s .ticket) ++ margins))
 
   abbrev jobs : List ℕ
   jobs = joined le16Bytes (s .run) ++ (joined le32Bytes (s .stamp) ++ (joined le8Bytes (rows .table .rank) ++ firms))
@@ -65,17 +69,20 @@ module _ (rows : Rows) (s : State) (L : Long rows s) (F : Fit rows s) where
   rank-stands : Stands (imageOf rows s) rank-at (joined le8Bytes (rows .table .rank)) firms
   rank-stands = record { is = behind stamp-stands (joined-long form32 (s .stamp) 16 (L .stamp-long)) }
 
-  budget-stands : Stands (imageOf rows s) budget-at (joined le16Bytes (s .budget)) (joined le16Bytes (s .used) ++ (joined le32Bytes (s .ticket) ++ reserved))
+  budget-stands : Stands (imageOf rows s) budget-at (joined le16Bytes (s .budget)) (joined le16Bytes (s .used) ++ (joined le32Bytes (s .ticket) ++ margins))
   budget-stands = record { is = behind rank-stands (joined-long form8 (rows .table .rank) 16 (L .rank-long)) }
 
-  used-stands : Stands (imageOf rows s) used-at (joined le16Bytes (s .used)) (joined le32Bytes (s .ticket) ++ reserved)
+  used-stands : Stands (imageOf rows s) used-at (joined le16Bytes (s .used)) (joined le32Bytes (s .ticket) ++ margins)
   used-stands = record { is = behind budget-stands (joined-long form16 (s .budget) 8 (L .budget-long)) }
 
-  ticket-stands : Stands (imageOf rows s) ticket-at (joined le32Bytes (s .ticket)) reserved
+  ticket-stands : Stands (imageOf rows s) ticket-at (joined le32Bytes (s .ticket)) margins
   ticket-stands = record { is = behind used-stands (joined-long form16 (s .used) 8 (L .used-long)) }
 
+  m-stands : Stands (imageOf rows s) M-at (joined le16Bytes (rows .table .m)) reserved
+  m-stands = record { is = behind ticket-stands (joined-long form32 (s .ticket) 8 (L .ticket-long)) }
+
   pub reserved-stands : drop reserved-at (imageOf rows s) ≡ reserved
-  reserved-stands = behind ticket-stands (joined-long form32 (s .ticket) 8 (L .ticket-long))
+  reserved-stands = behind m-stands (joined-long form16 (rows .table .m) 16 (L .m-long))
 
   -- the numbers in front
 
@@ -122,6 +129,7 @@ module _ (rows : Rows) (s : State) (L : Long rows s) (F : Fit rows s) where
         numbers-back form16 (rows .table .t) t-stands (L .t-long) (F .t-lt),
         numbers-back form16 (rows .u) u-stands (L .u-long) (F .u-lt),
         numbers-back form8 (rows .table .rank) rank-stands (L .rank-long) (F .rank-lt),
+        numbers-back form16 (rows .table .m) m-stands (L .m-long) (F .m-lt),
       )
 
   pub state-back : stateAt (imageOf rows s) ≡ s

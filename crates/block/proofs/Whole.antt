@@ -8,7 +8,7 @@ use native.Mathlib.Omega.{arith}
 use Rattle.rules.specs.Tables.{Bytes}
 use Rattle.rules.proofs.Fields.{byte-lt}
 use Rattle.state.specs.Meaning.{entry}
-use Rattle.block.specs.Places.{C-at, D-at, T-at, U-at, block-bytes, budget-at, clock-at, count-at, free-at, last-at, n-at, next-at, open-at, rank-at, reserved-at, reserved-bytes, rested-at, run-at, stamp-at, ticket-at, used-at}
+use Rattle.block.specs.Places.{C-at, D-at, M-at, T-at, U-at, block-bytes, budget-at, clock-at, count-at, free-at, last-at, n-at, next-at, open-at, rank-at, reserved-at, reserved-bytes, rested-at, run-at, stamp-at, ticket-at, used-at}
 use Rattle.block.specs.Words.{le8Bytes}
 use Rattle.block.specs.Layout.{headBytes, imageOf, jobsBytes, marksBytes, numbersBytes, queueBytes, reserved, rowsAt, stateAt, tableBytes}
 use Rattle.block.proofs.Arrays.{numbers-stand}
@@ -47,7 +47,7 @@ module _ (b : List ℕ) (bytes : Bytes b) (long : length b ≡ block-bytes)
   unfolding jobsBytes
   jobs-stand = join stamp-at (numbers-stand form16 b bytes run-at 16 (omega arith)) (numbers-stand form32 b bytes stamp-at 16 (omega arith))
 
-  queue-stands : Stands b budget-at (queueBytes (stateAt b)) (drop reserved-at b)
+  queue-stands : Stands b budget-at (queueBytes (stateAt b)) (drop M-at b)
   unfolding queueBytes
   queue-stands =
       join used-at (numbers-stand form16 b bytes budget-at 8 (omega arith))
@@ -72,5 +72,6 @@ module _ (b : List ℕ) (bytes : Bytes b) (long : length b ≡ block-bytes)
       (join run-at table-stands
       (join rank-at jobs-stand
       (join budget-at (numbers-stand form8 b bytes rank-at 16 (omega arith))
-      (join reserved-at queue-stands reserved-stands)))) in
+      (join M-at queue-stands
+      (join reserved-at (numbers-stand form16 b bytes M-at 16 (omega arith)) reserved-stands))))) in
       sym (all .is ∙ ap (λ l. imageOf (rowsAt b) (stateAt b) ++ l) (drop-of-length-le b {i = block-bytes} (omega arith)) ∙ append-nil (imageOf (rowsAt b) (stateAt b)))

@@ -9,7 +9,7 @@ use lib.Seq.{sets}
 use Rattle.state.specs.Meaning.{entry}
 use Rattle.state.specs.declared.Rows.{Rows}
 use Rattle.state.specs.declared.State.{State}
-use Rattle.block.specs.Places.{C-at, D-at, T-at, U-at, block-bytes, budget-at, clock-at, count-at, last-at, n-at, next-at, open-at, rank-at, reserved-bytes, rested-at, run-at, stamp-at, ticket-at, used-at}
+use Rattle.block.specs.Places.{C-at, D-at, M-at, T-at, U-at, block-bytes, budget-at, clock-at, count-at, last-at, n-at, next-at, open-at, rank-at, reserved-bytes, rested-at, run-at, stamp-at, ticket-at, used-at}
 use Rattle.block.specs.Words.{joined, le16, le16Bytes, le16sAt, le32, le32Bytes, le32sAt, le8Bytes, le8sAt}
 
 -- read
@@ -17,7 +17,7 @@ use Rattle.block.specs.Words.{joined, le16, le16Bytes, le16sAt, le32, le
 -- what no tick changes
 abbrev pub rowsAt : List ℕ → Rows
 rowsAt b = record {
-  table = record { n = entry b n-at; c = le16sAt b C-at 16; d = le16sAt b D-at 16; t = le16sAt b T-at 16; rank = le8sAt b rank-at 16 };
+  table = record { n = entry b n-at; c = le16sAt b C-at 16; d = le16sAt b D-at 16; t = le16sAt b T-at 16; rank = le8sAt b rank-at 16; m = le16sAt b M-at 16 };
   u = le16sAt b U-at 16;
 }
 
@@ -67,13 +67,17 @@ ranksBytes rows = joined le8Bytes (rows .table .rank)
 unfoldable pub queueBytes : State → List ℕ
 queueBytes s = joined le16Bytes (s .budget) ++ (joined le16Bytes (s .used) ++ joined le32Bytes (s .ticket))
 
+-- from M-at
+abbrev pub marginsBytes : Rows → List ℕ
+marginsBytes rows = joined le16Bytes (rows .table .m)
+
 -- from reserved-at
 unfoldable pub reserved : List ℕ
 reserved = replicate reserved-bytes 0
 
 -- the whole
 unfoldable pub imageOf : Rows → State → List ℕ
-imageOf rows s = headBytes (rows .table .n) s ++ (tableBytes rows ++ (jobsBytes s ++ (ranksBytes rows ++ (queueBytes s ++ reserved))))
+imageOf rows s = headBytes (rows .table .n) s ++ (tableBytes rows ++ (jobsBytes s ++ (ranksBytes rows ++ (queueBytes s ++ (marginsBytes rows ++ reserved)))))
 
 -- the arrays have the lengths of their types
 pub record Long (rows : Rows) (s : State) : Type 0 where
@@ -82,6 +86,7 @@ pub record Long (rows : Rows) (s : State) : Type 0 where
   pub t-long : length (rows .table .t) ≡ 16
   pub u-long : length (rows .u) ≡ 16
   pub rank-long : length (rows .table .rank) ≡ 16
+  pub m-long : length (rows .table .m) ≡ 16
   pub run-long : length (s .run) ≡ 16
   pub stamp-long : length (s .stamp) ≡ 16
   pub budget-long : length (s .budget) ≡ 8

@@ -73,13 +73,17 @@ used-at = 272
 abbrev pub ticket-at : ℕ
 ticket-at = 288
 
+-- M of the rows
+abbrev pub M-at : ℕ
+M-at = 320
+
 -- the bytes that are kept free, to the end
 abbrev pub reserved-at : ℕ
-reserved-at = 320
+reserved-at = 352
 
 -- how many they are
 abbrev pub reserved-bytes : ℕ
-reserved-bytes = 192
+reserved-bytes = 160
 
 -- the whole block
 abbrev pub block-bytes : ℕ

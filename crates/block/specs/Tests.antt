@@ -11,7 +11,7 @@ use Rattle.state.specs.Sets.{known, others}
 use Rattle.state.specs.declared.Rows.{Rows}
 use Rattle.state.specs.declared.State.{State}
 use Rattle.block.specs.declared.Decoded.{Decoded}
-use Rattle.block.specs.Places.{C-at, D-at, T-at, U-at, block-bytes, budget-at, clock-at, count-at, free-at, last-at, n-at, next-at, open-at, rank-at, reserved-at, reserved-bytes, rested-at, run-at, stamp-at, ticket-at, used-at}
+use Rattle.block.specs.Places.{C-at, D-at, M-at, T-at, U-at, block-bytes, budget-at, clock-at, count-at, free-at, last-at, n-at, next-at, open-at, rank-at, reserved-at, reserved-bytes, rested-at, run-at, stamp-at, ticket-at, used-at}
 use Rattle.block.specs.Words.{le16, le32}
 use Rattle.block.specs.Layout.{rowsAt, stateAt}
 
@@ -32,16 +32,20 @@ orOf f (suc n) = bitOr (orOf f n) (f n)
 abbrev pub mostRun : Bool → ℕ → ℕ
 mostRun ran budget = budget - cond ran 0 1
 
--- the rows: C ≤ D ≤ T, U ≤ D − C, C ≥ 1 where there is a row and T = 0 where there is none; ticks run: as many as a job may, 0 if closed
+-- the ticks that a row's margin leaves of D
+abbrev pub due : ℕ → ℕ → ℕ
+due d m = d - m
+
+-- the rows: C ≤ D − M, D ≤ T, U ≤ D − M − C; C ≥ 1 where there is a row, so that M is below D, and T = M = 0 where there is none; ticks run: as many as a job may, 0 if closed
 
 -- of one row
-unfoldable pub hardFault : Bool → Bool → Bool → ℕ → ℕ → ℕ → ℕ → ℕ → ℕ
-hardFault live o ran c d t u run = bitOr (bitOr (bitOr (bitOr (c - d) (d - t)) (u - (d - c))) (cond live (1 - c) t)) (run - cond o (mostRun ran c) 0)
+unfoldable pub hardFault : Bool → Bool → Bool → ℕ → ℕ → ℕ → ℕ → ℕ → ℕ → ℕ
+hardFault live o ran c d t u m run = bitOr (bitOr (bitOr (bitOr (c - due d m) (d - t)) (u - (due d m - c))) (cond live (1 - c) (bitOr t m))) (run - cond o (mostRun ran c) 0)
 
 -- of the row at i
 abbrev pub hardFaultAt : List ℕ → ℕ → ℕ → ℕ → ℕ → ℕ
 hardFaultAt b live o ran i =
-    hardFault (bit live i) (bit o i) (bit ran i) (le16 b (C-at + 2 * i)) (le16 b (D-at + 2 * i)) (le16 b (T-at + 2 * i)) (le16 b (U-at + 2 * i)) (le16 b (run-at + 2 * i))
+    hardFault (bit live i) (bit o i) (bit ran i) (le16 b (C-at + 2 * i)) (le16 b (D-at + 2 * i)) (le16 b (T-at + 2 * i)) (le16 b (U-at + 2 * i)) (le16 b (M-at + 2 * i)) (le16 b (run-at + 2 * i))
 
 -- no row has a fault
 unfoldable pub rowsGood : List ℕ → ℕ → ℕ → ℕ → Bool
@@ -160,7 +164,7 @@ zeros n = replicate n 0
 abbrev pub refusedBlock : Decoded
 refusedBlock = record {
   ok = false;
-  rows = record { table = record { n = 0; c = zeros 16; d = zeros 16; t = zeros 16; rank = zeros 16 }; u = zeros 16 };
+  rows = record { table = record { n = 0; c = zeros 16; d = zeros 16; t = zeros 16; rank = zeros 16; m = zeros 16 }; u = zeros 16 };
   state = record {
     clock = 0;
     next = 0;

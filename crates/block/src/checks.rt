@@ -122,13 +122,24 @@ fn most_run(ran: bool, budget: u16) -> u16
     over(budget, pick(ran, 0, 1))
 }
 
-fn hard_fault(live: bool, open: bool, ran: bool, c: u16, d: u16, t: u16, u: u16, run: u16) -> u16
-    ensures { λ r. ⌜ r ≡ hardFault live «open» ran c d t u run ⌝ }
+fn hard_fault(
+    live: bool,
+    open: bool,
+    ran: bool,
+    c: u16,
+    d: u16,
+    t: u16,
+    u: u16,
+    m: u16,
+    run: u16,
+) -> u16
+    ensures { λ r. ⌜ r ≡ hardFault live «open» ran c d t u m run ⌝ }
 {
-    over(c, d)
+    let due = over(d, m);
+    over(c, due)
         | over(d, t)
-        | over(u, over(d, c))
-        | pick(live, over(1, c), t)
+        | over(u, over(due, c))
+        | pick(live, over(1, c), t | m)
         | over(run, pick(open, most_run(ran, c), 0))
 }
 
@@ -148,6 +159,7 @@ fn rows_good(b: &[u8], live: u16, open: u16, ran: u16) -> bool
                 words::get16(b, places::D_AT + 2 * i),
                 words::get16(b, places::T_AT + 2 * i),
                 words::get16(b, places::U_AT + 2 * i),
+                words::get16(b, places::M_AT + 2 * i),
                 words::get16(b, places::RUN_AT + 2 * i),
             );
         i += 1;

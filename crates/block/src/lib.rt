@@ -77,12 +77,14 @@ fn no_rows() -> Rows
     let d = [0u16; 16];
     let t = [0u16; 16];
     let rank = [0u8; 16];
+    let m = [0u16; 16];
     let table = Table {
         n: 0,
         c,
         d,
         t,
         rank,
+        m,
     };
     let u = [0u16; 16];
     Rows { table, u }

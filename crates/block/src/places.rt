@@ -35,8 +35,10 @@ pub const USED_AT: usize = 272;
 
 pub const TICKET_AT: usize = 288;
 
-pub const RESERVED_AT: usize = 320;
+pub const M_AT: usize = 320;
+
+pub const RESERVED_AT: usize = 352;
 // How many bytes are kept free from there on, to the end of the block.
-pub const RESERVED_BYTES: usize = 192;
+pub const RESERVED_BYTES: usize = 160;
 
 pub const BLOCK_BYTES: usize = 512;

@@ -18,17 +18,20 @@ pub fn rows_at(b: &[u8]) -> Rows
     let mut t = [0u16; 16];
     let mut u = [0u16; 16];
     let mut rank = [0u8; 16];
+    let mut m = [0u16; 16];
     words::get16s(b, places::C_AT, &mut c);
     words::get16s(b, places::D_AT, &mut d);
     words::get16s(b, places::T_AT, &mut t);
     words::get16s(b, places::U_AT, &mut u);
     words::get8s(b, places::RANK_AT, &mut rank);
+    words::get16s(b, places::M_AT, &mut m);
     let table = Table {
         n: words::size(b[places::N_AT]),
         c,
         d,
         t,
         rank,
+        m,
     };
     Rows { table, u }
 }

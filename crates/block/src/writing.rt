@@ -1,9 +1,9 @@
 // The parts of an image, put one after the other in a block.
 ghost use mathlib.Core.Path.{_≡_};
 ghost use lib.ListN.{length};
-ghost use Rattle.block.specs.Places.{C-at, block-bytes, budget-at, clock-at, count-at, free-at, n-at, rank-at, reserved-at, run-at};
+ghost use Rattle.block.specs.Places.{C-at, M-at, block-bytes, budget-at, clock-at, count-at, free-at, n-at, rank-at, reserved-at, run-at};
 ghost use Rattle.block.specs.Words.{Put};
-ghost use Rattle.block.specs.Layout.{headBytes, marksBytes, numbersBytes, tableBytes, jobsBytes, ranksBytes, queueBytes, reserved, imageOf, stateOn};
+ghost use Rattle.block.specs.Layout.{headBytes, marksBytes, numbersBytes, tableBytes, jobsBytes, ranksBytes, queueBytes, marginsBytes, reserved, imageOf, stateOn};
 use crate::places;
 use crate::words;
 use state::Rows;
@@ -19,6 +19,7 @@ pub fn put_image(rows: Rows, s: State, b: &mut [u8])
     put_jobs(s, b);
     put_ranks(rows, b);
     put_queue(s, b);
+    put_margins(rows, b);
     put_reserved(b);
 }
 
@@ -97,7 +98,7 @@ fn put_ranks(rows: Rows, b: &mut [u8])
 
 fn put_queue(s: State, b: &mut [u8])
     requires { ⌜ length (now b) ≡ block-bytes ⌝ }
-    ensures { λ _. ⌜ Put (now (b .entry)) (now (b .exit)) (queueBytes s) budget-at reserved-at ⌝ }
+    ensures { λ _. ⌜ Put (now (b .entry)) (now (b .exit)) (queueBytes s) budget-at M-at ⌝ }
 {
     let budget = s.budget;
     let used = s.used;
@@ -105,6 +106,15 @@ fn put_queue(s: State, b: &mut [u8])
     words::put16s(b, places::BUDGET_AT, &budget);
     words::put16s(b, places::USED_AT, &used);
     words::put32s(b, places::TICKET_AT, &ticket);
+}
+
+fn put_margins(rows: Rows, b: &mut [u8])
+    requires { ⌜ length (now b) ≡ block-bytes ⌝ }
+    ensures { λ _. ⌜ Put (now (b .entry)) (now (b .exit)) (marginsBytes rows) M-at reserved-at ⌝ }
+{
+    let table = rows.table;
+    let m = table.m;
+    words::put16s(b, places::M_AT, &m);
 }
 
 fn put_reserved(b: &mut [u8])

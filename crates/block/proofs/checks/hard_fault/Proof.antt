@@ -19,6 +19,9 @@ over-requires-4 c κs = search needs
 over-requires-5 : tie.Need-over-requires-5
 over-requires-5 c κs = search needs
 
+over-requires-6 : tie.Need-over-requires-6
+over-requires-6 c κs = search needs
+
 pick-requires : tie.Need-pick-requires
 pick-requires c κs = search needs
 
@@ -28,22 +31,23 @@ most-run-requires c κs = search needs
 pick-requires-2 : tie.Need-pick-requires-2
 pick-requires-2 c κs = search needs
 
-over-requires-6 : tie.Need-over-requires-6
-over-requires-6 c κs = search needs
+over-requires-7 : tie.Need-over-requires-7
+over-requires-7 c κs = search needs
 
 returns : tie.Need-returns
 unfolding hardFault
 returns c =
     rw (
-      c .over6 .ensures,
+      c .over7 .ensures,
       c .before .pick2 .ensures,
       c .before .before .most-run .ensures,
       c .before .before .before .pick .ensures,
-      c .before .before .before .before .over5 .ensures,
-      c .before .before .before .before .before .over4 .ensures,
-      c .before .before .before .before .before .before .over3 .ensures,
-      c .before .before .before .before .before .before .before .over2 .ensures,
-      c .before .before .before .before .before .before .before .before .over .ensures,
+      c .before .before .before .before .over6 .ensures,
+      c .before .before .before .before .before .over5 .ensures,
+      c .before .before .before .before .before .before .over4 .ensures,
+      c .before .before .before .before .before .before .before .over3 .ensures,
+      c .before .before .before .before .before .before .before .before .over2 .ensures,
+      c .before .before .before .before .before .before .before .before .before .over .ensures,
     )
 
 pub hard-fault-spec : {M : Type 1} → statement M
@@ -55,8 +59,9 @@ hard-fault-spec =
     over-requires-3
     over-requires-4
     over-requires-5
+    over-requires-6
     pick-requires
     most-run-requires
     pick-requires-2
-    over-requires-6
+    over-requires-7
     returns)

@@ -73,6 +73,15 @@ add-get16-5 c = search needs
 get16-requires-5 : tie.Need-get16-requires-5 Inv-loop μ-loop
 get16-requires-5 c κs = search needs
 
+mul-get16-6 : tie.Need-mul-get16-6 Inv-loop μ-loop
+mul-get16-6 c = search needs
+
+add-get16-6 : tie.Need-add-get16-6 Inv-loop μ-loop
+add-get16-6 c = search needs
+
+get16-requires-6 : tie.Need-get16-requires-6 Inv-loop μ-loop
+get16-requires-6 c κs = search needs
+
 hard-fault-requires : tie.Need-hard-fault-requires Inv-loop μ-loop
 hard-fault-requires c κs = search needs
 
@@ -84,18 +93,19 @@ loop-less c = search needs
 
 loop-again : tie.Need-loop-again Inv-loop μ-loop
 loop-again c =
-    let b = c .before .before .before .before .before .before .before .before .before .before in
+    let b = c .before .before .before .before .before .before .before .before .before .before .before in
     let a = b .before .before .args in
     let f = hardFaultAt (a .b .now) (a .live) (a .«open») (a .ran) in
     let e : c .hard-fault .result ≡ f (b .loop .i) = rw (
-      ← c .before .before .before .before .before .before .before .before .bit .ensures,
-      ← c .before .before .before .before .before .before .before .bit2 .ensures,
-      ← c .before .before .before .before .before .before .bit3 .ensures,
-      ← c .before .before .before .before .before .get16 .ensures,
-      ← c .before .before .before .before .get162 .ensures,
-      ← c .before .before .before .get163 .ensures,
-      ← c .before .before .get164 .ensures,
-      ← c .before .get165 .ensures,
+      ← c .before .before .before .before .before .before .before .before .before .bit .ensures,
+      ← c .before .before .before .before .before .before .before .before .bit2 .ensures,
+      ← c .before .before .before .before .before .before .before .bit3 .ensures,
+      ← c .before .before .before .before .before .before .get16 .ensures,
+      ← c .before .before .before .before .before .get162 .ensures,
+      ← c .before .before .before .before .get163 .ensures,
+      ← c .before .before .before .get164 .ensures,
+      ← c .before .before .get165 .ensures,
+      ← c .before .get166 .ensures,
     ) (c .hard-fault .ensures) in
     (search needs, search needs, or-next f (b .loop .i) (b .loop .x) (c .hard-fault .result) (b .loop .inv .2) e)
 
@@ -131,6 +141,9 @@ rows-good-spec =
     mul-get16-5
     add-get16-5
     get16-requires-5
+    mul-get16-6
+    add-get16-6
+    get16-requires-6
     hard-fault-requires
     add-i
     loop-less

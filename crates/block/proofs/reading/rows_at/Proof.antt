@@ -34,6 +34,12 @@ slice-aggregate-get8s c = search needs
 get8s-requires : tie.Need-get8s-requires
 get8s-requires c κs = search needs
 
+slice-aggregate-get16s-5 : tie.Need-slice-aggregate-get16s-5
+slice-aggregate-get16s-5 c = search needs
+
+get16s-requires-5 : tie.Need-get16s-requires-5
+get16s-requires-5 c κs = search needs
+
 shared-slice-read-size : tie.Need-shared-slice-read-size
 shared-slice-read-size c = search needs
 
@@ -42,12 +48,13 @@ size-requires c κs = search needs
 
 returns : tie.Need-returns
 returns c =
-    let ranks = c .before .before .before in
+    let ms = c .before .before .before in
+    let ranks = ms .before .before .before in
     let us = ranks .before .before .before in
     let ts = us .before .before .before in
     let ds = ts .before .before .before in
     let cs = ds .before .before .before in
-    rows-read (cs .before .before .before .args .b .now) (c .size .ensures .0) (cs .get16s .ensures) (ds .get16s2 .ensures) (ts .get16s3 .ensures) (us .get16s4 .ensures) (ranks .get8s .ensures)
+    rows-read (cs .before .before .before .args .b .now) (c .size .ensures .0) (cs .get16s .ensures) (ds .get16s2 .ensures) (ts .get16s3 .ensures) (us .get16s4 .ensures) (ranks .get8s .ensures) (ms .get16s5 .ensures)
 
 pub rows-at-spec : {M : Type 1} → statement M
 rows-at-spec =
@@ -63,6 +70,8 @@ rows-at-spec =
     get16s-requires-4
     slice-aggregate-get8s
     get8s-requires
+    slice-aggregate-get16s-5
+    get16s-requires-5
     shared-slice-read-size
     size-requires
     returns)

@@ -21,6 +21,9 @@ put-ranks-requires c κs = search needs
 put-queue-requires : tie.Need-put-queue-requires
 put-queue-requires c κs = search needs
 
+put-margins-requires : tie.Need-put-margins-requires
+put-margins-requires c κs = search needs
+
 put-reserved-requires : tie.Need-put-reserved-requires
 put-reserved-requires c κs = search needs
 
@@ -31,7 +34,8 @@ returns : tie.Need-returns
 unfolding imageOf
 returns c =
     let free = c .before .before in
-    let queue = free .before .before .before .before in
+    let margins = free .before .before .before .before in
+    let queue = margins .before .before .before .before in
     let ranks = queue .before .before .before .before in
     let jobs = ranks .before .before .before .before in
     let table = jobs .before .before .before .before in
@@ -41,7 +45,8 @@ returns c =
     (put-then (table .put-table .ensures) refl
     (put-then (jobs .put-jobs .ensures) refl
     (put-then (ranks .put-ranks .ensures) refl
-    (put-then (queue .put-queue .ensures) refl (free .put-reserved .ensures))))))
+    (put-then (queue .put-queue .ensures) refl
+    (put-then (margins .put-margins .ensures) refl (free .put-reserved .ensures)))))))
     (head .before .before .before .before .pre)
 
 pub put-image-spec : {M : Type 1} → statement M
@@ -53,6 +58,7 @@ put-image-spec =
     put-jobs-requires
     put-ranks-requires
     put-queue-requires
+    put-margins-requires
     put-reserved-requires
     same-length
     returns)
