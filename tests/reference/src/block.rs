@@ -1,5 +1,5 @@
 //! The state block: `docs/block.md` read once more, as plainly as it stands
-//! there, with document 01's conditions on an image (refusal 11).
+//! there, with the documents' conditions on an image (refusal 11).
 
 use crate::station::{FirmJob, HardJob, HardRow, Last, Station, MOST_FIRM, ROLL_OVER};
 use crate::table::{check_rows, Row, MOST_ROWS};
@@ -26,7 +26,8 @@ pub const RANK_AT: usize = 240;
 pub const BUDGET_AT: usize = 256;
 pub const USED_AT: usize = 272;
 pub const TICKET_AT: usize = 288;
-pub const RESERVED_AT: usize = 320;
+pub const M_AT: usize = 320;
+pub const RESERVED_AT: usize = 352;
 
 const LAST_FIRM: u8 = 16;
 const LAST_NOBODY: u8 = 17;
@@ -69,6 +70,7 @@ fn hard_row(block: &[u8], index: usize, time: u128) -> HardRow {
         d: entry(D_AT) as u16,
         t: entry(T_AT) as u16,
         rank: block[RANK_AT + index],
+        m: entry(M_AT) as u16,
     };
     let stamp = number(block, STAMP_AT + 4 * index, 4);
     let rested = in_set(number(block, RESTED_AT, 2), index);
@@ -89,16 +91,21 @@ fn firm_job(block: &[u8], index: usize, accepted: u128) -> FirmJob {
     FirmJob { number: accepted, budget: entry(BUDGET_AT), run: entry(USED_AT) }
 }
 
-/// Document 01's conditions on the state of an image.
+/// The conditions of the documents on the state of an image.
 pub fn meets_conditions(station: &Station) -> bool {
-    let table: Vec<Row> = station.rows.iter().map(|hard| hard.row).collect();
+    let table = station.table_rows();
     if check_rows(&table).is_err() || table.len() > MOST_ROWS || station.firm.len() > MOST_FIRM {
         return false;
     }
-    let promotions =
-        station.rows.iter().all(|hard| hard.promotion <= u128::from(hard.row.d - hard.row.c));
+    let promotions = station.rows.iter().all(promoted_soon_enough);
     let budgets = station.firm.iter().all(|job| job.budget >= 1);
     promotions && budgets && last_ran(station) && run_as_far_as_may_be(station)
+}
+
+/// U <= D - C - M. No U is that small where C and M together are above D.
+fn promoted_soon_enough(hard: &HardRow) -> bool {
+    let [c, d, m] = [hard.row.c, hard.row.d, hard.row.m].map(u128::from);
+    hard.promotion + c + m <= d
 }
 
 /// The last runner, if a job, is open and run at least once.
@@ -147,6 +154,7 @@ pub fn encode(station: &Station) -> [u8; BLOCK] {
         put(&mut block, D_AT + two, 2, u128::from(hard.row.d));
         put(&mut block, T_AT + two, 2, u128::from(hard.row.t));
         put(&mut block, U_AT + two, 2, hard.promotion);
+        put(&mut block, M_AT + two, 2, u128::from(hard.row.m));
         block[RANK_AT + index] = hard.row.rank;
         if let Some(job) = &hard.open {
             open += bit(index);
@@ -195,11 +203,13 @@ fn put(block: &mut [u8], offset: usize, width: usize, number: u128) {
 #[cfg(test)]
 mod tests {
     use super::*;
-    use crate::table::{file_of_rows, read_table};
+    use crate::table::{file_of_rows, read_table, write_table};
 
-    /// Rows (2, 6, 8) and (5, 12, 12), two uploads queued; row 2 ran last.
+    /// Rows (2, 6, 8) and (5, 12, 12), the second with a margin of 1, two uploads
+    /// queued; row 2 ran last.
     fn busy() -> Station {
-        let rows = [Row { c: 2, d: 6, t: 8, rank: 1 }, Row { c: 5, d: 12, t: 12, rank: 0 }];
+        let rows =
+            [Row { c: 2, d: 6, t: 8, rank: 1, m: 0 }, Row { c: 5, d: 12, t: 12, rank: 0, m: 1 }];
         let mut station = Station::new(&read_table(&file_of_rows(&rows)).unwrap());
         station.tick(3, false, false).unwrap();
         station.offer(1, 9).unwrap();
@@ -224,7 +234,9 @@ mod tests {
         assert_eq!(block[16..20], [2, 0, 5, 0]);
         assert_eq!(block[144..148], [0, 0, 1, 0]);
         assert_eq!(block[288..296], [0, 0, 0, 0, 1, 0, 0, 0]);
-        assert!(block[320..].iter().all(|&byte| byte == 0));
+        assert_eq!(block[112..116], [4, 0, 4, 0]);
+        assert_eq!(block[320..324], [0, 0, 1, 0]);
+        assert!(block[324..].iter().all(|&byte| byte == 0));
     }
 
     #[test]
@@ -245,8 +257,9 @@ mod tests {
 
     #[test]
     fn what_means_nothing_must_be_zero() {
-        for offset in [FREE_AT, RESERVED_AT, 511, C_AT + 4, STAMP_AT + 8, TICKET_AT + 8] {
-            assert_eq!(damaged(offset, 1), None, "byte {offset}");
+        let past_the_table = [C_AT + 4, M_AT + 4, RESERVED_AT - 1, STAMP_AT + 8, TICKET_AT + 8];
+        for offset in [FREE_AT, RESERVED_AT, 511].iter().chain(&past_the_table) {
+            assert_eq!(damaged(*offset, 1), None, "byte {offset}");
         }
         assert_eq!(damaged(OPEN_AT, 7), None);
         assert_eq!(damaged(RESTED_AT + 1, 1), None);
@@ -261,6 +274,10 @@ mod tests {
         assert_eq!(damaged(T_AT, 5), None);
         assert_eq!(damaged(RANK_AT, 0), None);
         assert_eq!(damaged(U_AT, 5), None);
+        assert_eq!(damaged(U_AT + 2, 7), None);
+        assert_eq!(damaged(M_AT, 1), None);
+        assert_eq!(damaged(M_AT + 2, 4), None);
+        assert_eq!(damaged(M_AT + 3, 255), None);
         assert_eq!(damaged(STAMP_AT, 2), None);
         assert_eq!(damaged(BUDGET_AT, 0), None);
         assert_eq!(damaged(TICKET_AT, 9), None);
@@ -277,11 +294,26 @@ mod tests {
     #[test]
     fn other_states_are_accepted() {
         assert!(damaged(U_AT, 3).is_some());
+        assert!(damaged(U_AT + 2, 6).is_some());
+        assert!(damaged(M_AT + 2, 0).is_some());
+        assert!(damaged(M_AT + 2, 3).is_some());
         assert!(damaged(RUN_AT, 1).is_some());
         assert!(damaged(RUN_AT + 2, 5).is_some());
         assert!(damaged(BUDGET_AT, 9).is_some());
         assert!(damaged(LAST_AT, LAST_NOBODY).is_some());
         assert!(damaged(CLOCK_AT, 5).is_some());
+    }
+
+    #[test]
+    fn an_image_may_hold_a_margin_that_planning_refuses() {
+        let mut block = encode(&busy());
+        // C + M = D leaves U = 0, but R is 7.
+        block[U_AT + 2] = 0;
+        block[M_AT + 2] = 7;
+        let rows = decode(&block).unwrap().table_rows();
+        assert_eq!(write_table(&rows, &mut [0; BLOCK]), Err(22));
+        block[M_AT + 2] = 8;
+        assert_eq!(decode(&block), None);
     }
 
     #[test]

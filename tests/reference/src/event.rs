@@ -26,8 +26,9 @@ pub enum Found {
 /// Reads the event that starts at `place`: 1, 2, 3, 1 for the value, then 20.
 pub fn read_event(file: &[u8], place: usize) -> Found {
     let left = &file[place..];
-    let refuse =
-        |number: u8, size: usize| Found::Refused(FileRefusal { number, from: place, size });
+    let refuse = |number: u8, size: usize| {
+        Found::Refused(FileRefusal { number, from: place, size, row: None })
+    };
 
     if left.is_empty() {
         return Found::End;
@@ -89,7 +90,7 @@ mod tests {
     use super::*;
 
     fn refused(number: u8, from: usize, size: usize) -> Found {
-        Found::Refused(FileRefusal { number, from, size })
+        Found::Refused(FileRefusal { number, from, size, row: None })
     }
 
     #[test]

@@ -196,6 +196,19 @@ mod tests {
     }
 
     #[test]
+    fn tables_with_margins() {
+        let first = "02 00 09 00 02 00 06 00 08 00 00 01";
+        let table = format!("{first} 02 00 09 00 05 00 0c 00 0c 01 00 05 0f 00 00");
+        assert_eq!(plan(&hex(&table)), "1 2 6 8 2 3 1\n2 5 12 12 7 0 2\n");
+        let zero = "02 00 09 00 05 00 0c 00 0c 01 00 00";
+        both(&format!("{first} {zero} 0f 00 00"), &format!("refused 21 {zero}\n"));
+        let above = "02 00 09 00 05 00 0c 00 0c 01 00 06";
+        both(&format!("{first} {above} 0f 00 00"), &format!("refused 22 {above}\n"));
+        both(&format!("{first} 02 00 09 00 05 00 0c"), "refused 1 02 00 09 00 05 00 0c\n");
+        both("02 00 07 00 02 00 06 00 08 00", "refused 3 02 00 07\n");
+    }
+
+    #[test]
     fn events_refused_and_stopped_at() {
         let stops = |field: &str, want: &str| {
             let events = [tick_field(0, 0), hex(field)].concat();

@@ -184,6 +184,11 @@ impl Station {
         Station { time: 0, rows, firm: Vec::new(), acceptances: 0, last: Last::None }
     }
 
+    /// The rows of the table in force.
+    pub fn table_rows(&self) -> Vec<Row> {
+        self.rows.iter().map(|hard| hard.row).collect()
+    }
+
     /// The next tick as the clock shows it.
     pub fn clock(&self) -> u128 {
         self.time % ROLL_OVER
@@ -376,8 +381,12 @@ mod tests {
 
     /// A fresh station with rows of these (C, D, T, rank).
     fn station(numbers: &[(u16, u16, u16, u8)]) -> Station {
-        let rows: Vec<Row> = numbers.iter().map(|&(c, d, t, rank)| Row { c, d, t, rank }).collect();
-        Station::new(&read_table(&file_of_rows(&rows)).unwrap())
+        let rows = numbers.iter().map(|&(c, d, t, rank)| Row { c, d, t, rank, m: 0 });
+        of_rows(&rows.collect::<Vec<Row>>())
+    }
+
+    fn of_rows(rows: &[Row]) -> Station {
+        Station::new(&read_table(&file_of_rows(rows)).unwrap())
     }
 
     fn table_a() -> Station {
@@ -556,6 +565,40 @@ mod tests {
         let upper = Runner::Hard(1, Band::Upper);
         let soft = Runner::Soft;
         assert_eq!(runners, [soft, soft, soft, soft, upper, upper]);
+    }
+
+    /// Table A with margins 1 and 5: U 3 and 0.
+    fn table_a_with_margins() -> Station {
+        of_rows(&[
+            Row { c: 2, d: 6, t: 8, rank: 0, m: 1 },
+            Row { c: 5, d: 12, t: 12, rank: 1, m: 5 },
+        ])
+    }
+
+    #[test]
+    fn a_margin_promotes_earlier() {
+        let mut a = table_a_with_margins();
+        let mut answers = vec![a.tick(3, false, true).unwrap()];
+        for _ in 1..8 {
+            answers.push(a.tick(0, false, true).unwrap());
+        }
+        let row = |row| Runner::Hard(row, Band::Upper);
+        let runners: Vec<Runner> = answers.iter().map(|answer| answer.runner).collect();
+        let want = [row(2), row(2), row(2), row(1), row(1), row(2), row(2), Runner::Soft];
+        assert_eq!(runners, want);
+        // Row 1 has run when D - M = 5 ticks are stepped, row 2 when 7 are.
+        let closings: Vec<Closing> = answers.iter().map(|answer| answer.closing).collect();
+        let (first, second) = (Closing::Spent(Job::Hard(1)), Closing::Spent(Job::Hard(2)));
+        let none = Closing::None;
+        assert_eq!(closings, [none, none, none, none, none, first, none, second]);
+    }
+
+    #[test]
+    fn a_margin_takes_room() {
+        // Row 1 may claim two ticks from 3 on, row 2 five from 0 on.
+        let (with, without) = (table_a_with_margins(), table_a());
+        assert_eq!([3, 4, 5, 6].map(|d| with.room(d)), [0, -1, -2, -1]);
+        assert_eq!([3, 4, 5, 6].map(|d| without.room(d)), [3, 4, 4, 3]);
     }
 
     #[test]

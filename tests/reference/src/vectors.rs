@@ -2,7 +2,7 @@
 
 use crate::programs;
 use crate::random::Random;
-use crate::table::{file_of_rows, read_table, Row};
+use crate::table::{end_field, file_of_rows, margin_row_field, read_table, Row};
 use crate::{vectors_plan, vectors_run};
 use std::fs;
 use std::io;
@@ -66,7 +66,7 @@ pub fn write_run(folder: &Path) -> io::Result<()> {
 
 /// The file of a table with rows (C, D, T, rank), good or not.
 pub fn table(rows: &[(u16, u16, u16, u8)]) -> Vec<u8> {
-    let rows: Vec<Row> = rows.iter().map(|&(c, d, t, rank)| Row { c, d, t, rank }).collect();
+    let rows: Vec<Row> = rows.iter().map(|&(c, d, t, rank)| Row { c, d, t, rank, m: 0 }).collect();
     file_of_rows(&rows)
 }
 
@@ -75,6 +75,27 @@ pub fn rows_only(rows: &[(u16, u16, u16, u8)]) -> Vec<u8> {
     let mut bytes = table(rows);
     bytes.truncate(bytes.len() - 3);
     bytes
+}
+
+/// Rows (C, D, T, rank, M) with the tag of a margin, M = 0 too.
+pub fn margin_rows(rows: &[(u16, u16, u16, u8, u16)]) -> Vec<u8> {
+    let rows = rows.iter().map(|&(c, d, t, rank, m)| Row { c, d, t, rank, m });
+    rows.flat_map(|row| margin_row_field(&row)).collect()
+}
+
+/// The same with the end field.
+pub fn margin_table(rows: &[(u16, u16, u16, u8, u16)]) -> Vec<u8> {
+    ended(&[margin_rows(rows)])
+}
+
+/// The file of a table whose row fields are these.
+pub fn ended(fields: &[Vec<u8>]) -> Vec<u8> {
+    join(&[join(fields), end_field()])
+}
+
+/// Table A of document 01 with margins 1 and 5, which leave U 3 and 0.
+pub fn table_a_with_margins() -> Vec<u8> {
+    margin_table(&[(2, 6, 8, 0, 1), (5, 12, 12, 1, 5)])
 }
 
 /// Table A of document 01.
@@ -118,7 +139,7 @@ fn random_rows(random: &mut Random, n: u64, longest: u64) -> Vec<Row> {
         // do not.
         let c = random.between(1, 1.max(2 * t / (n + 1)).min(t));
         let d = random.between(c, t);
-        rows.push(Row { c: c as u16, d: d as u16, t: t as u16, rank });
+        rows.push(Row { c: c as u16, d: d as u16, t: t as u16, rank, m: 0 });
     }
     // Shorter deadlines first, most times: other orders seldom pass.
     if !random.once_in(4) {
@@ -135,4 +156,25 @@ pub fn random_accepted(random: &mut Random, n: u64, longest: u64) -> Vec<u8> {
             return file;
         }
     }
+}
+
+/// An accepted table with other margins: of each row what `choose` makes of the
+/// largest that it may have, D - R.
+pub fn with_margins(file: &[u8], mut choose: impl FnMut(u64) -> u64) -> Vec<u8> {
+    let table = read_table(file).expect("an accepted table");
+    let rows = table.rows.iter().zip(&table.bounds).map(|(row, bound)| {
+        let largest = u128::from(row.d) - bound.response;
+        Row { m: choose(largest as u64) as u16, ..*row }
+    });
+    file_of_rows(&rows.collect::<Vec<Row>>())
+}
+
+/// An accepted table with random margins, none and the largest among them.
+pub fn random_margins(random: &mut Random, file: &[u8]) -> Vec<u8> {
+    with_margins(file, |largest| match random.below(4) {
+        0 => 0,
+        1 => largest,
+        2 => largest.min(1),
+        _ => random.between(0, largest),
+    })
 }

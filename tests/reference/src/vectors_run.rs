@@ -6,7 +6,8 @@ use crate::random::Random;
 use crate::station::{Last, Station};
 use crate::table::read_table;
 use crate::vectors::{
-    empty_table, join, light_rows, random_accepted, rows_only, table, table_a, RunVector,
+    empty_table, ended, join, light_rows, margin_rows, margin_table, random_accepted,
+    random_margins, rows_only, table, table_a, table_a_with_margins, RunVector,
 };
 
 const DONE: u8 = 1;
@@ -24,8 +25,10 @@ pub fn all() -> Vec<RunVector> {
     choices(&mut list);
     closings(&mut list);
     rooms(&mut list);
+    margins(&mut list);
     loads(&mut list);
     randoms(&mut list);
+    random_tables_with_margins(&mut list);
     lengths(&mut list);
     list
 }
@@ -101,6 +104,13 @@ fn tables_refused(list: &mut Vec<RunVector>) {
     refused("table-refusal-09-rank-n", table(&[(1, 9, 9, 2), (1, 9, 9, 0)]));
     refused("table-refusal-09-rank-used", table(&[(1, 9, 9, 0), (1, 9, 9, 0)]));
     refused("table-refusal-10", table(&[(3, 6, 6, 0), (2, 8, 8, 1), (3, 12, 12, 2)]));
+    let first = rows_only(&[(2, 4, 4, 0)]);
+    let second = |row| ended(&[first.clone(), margin_rows(&[row])]);
+    refused("table-refusal-03-margin-row", vec![0x02, 0x00, 0x07]);
+    refused("table-refusal-06-margin-row", second((0, 4, 4, 1, 1)));
+    refused("table-refusal-10-margin-row", second((3, 4, 4, 1, 1)));
+    refused("table-refusal-21", second((2, 4, 4, 1, 0)));
+    refused("table-refusal-22", second((2, 4, 4, 1, 1)));
 }
 
 /// 1, 2, 3 and 20: after these the program stops, good events or not.
@@ -427,6 +437,69 @@ fn rooms(list: &mut Vec<RunVector>) {
     );
 }
 
+/// Margins: promotion comes earlier, and takes room.
+fn margins(list: &mut Vec<RunVector>) {
+    let a = table_a_with_margins();
+    let soft = |how_many| times(how_many, tick(0, SOFT));
+    add(list, "margin-promoted-earlier", a.clone(), &[tick(3, SOFT), soft(13)]);
+    add(
+        list,
+        "margin-listing",
+        a.clone(),
+        &[
+            tick(3, 0),
+            tick(0, SOFT),
+            offer(2, 4),
+            plain(),
+            tick(1, 0),
+            plain(),
+            plain(),
+            tick(0, DONE),
+        ],
+    );
+    // Three rows alike but for their margins: U 19, 10 and 0.
+    let alike = ended(&[
+        rows_only(&[(1, 20, 20, 0)]),
+        margin_rows(&[(1, 20, 20, 1, 8), (1, 20, 20, 2, 17)]),
+    ]);
+    add(list, "margin-promoted-in-another-order", alike.clone(), &[tick(7, SOFT), soft(22)]);
+    add(list, "margin-promoted-before-firm", alike, &[offer(9, 12), tick(7, SOFT), soft(22)]);
+    // With the largest margin a row is promoted at its release.
+    let largest = margin_table(&[(2, 6, 8, 0, 4), (5, 12, 12, 1, 5)]);
+    let releases = [tick(3, SOFT), soft(7), tick(1, SOFT), soft(3), tick(2, SOFT), soft(8)];
+    add(list, "margin-largest-promoted-at-once", largest.clone(), &releases);
+    add(
+        list,
+        "margin-offers",
+        a.clone(),
+        &[offer(1, 3), offer(1, 8), offer(2, 8), tick(3, SOFT), offer(5, 12), soft(30)],
+    );
+    let fresh = Maker::new(&a);
+    let too_much = (1..=60).map(|d| offer(fresh.largest_budget(d) + 1, d));
+    let all_there_is = offer(fresh.largest_budget(30), 30);
+    add(
+        list,
+        "margin-room-of-future-jobs",
+        a.clone(),
+        &[too_much.collect::<Vec<_>>().concat(), all_there_is, times(60, plain())],
+    );
+    for (name, file) in [
+        ("margin-room-to-the-tick-table-a", a.clone()),
+        (
+            "margin-room-to-the-tick-both-tags",
+            ended(&[
+                margin_rows(&[(1, 4, 5, 2, 1), (2, 9, 9, 0, 2)]),
+                rows_only(&[(3, 14, 20, 1)]),
+            ]),
+        ),
+    ] {
+        let events = to_the_tick(&file, 100);
+        add(list, name, file, &[events]);
+    }
+    add(list, "margin-load-soft-always", a.clone(), &[eager(&a, 300, 0)]);
+    add(list, "margin-load-largest", largest.clone(), &[eager(&largest, 300, 7)]);
+}
+
 /// Again and again: an offer of one tick too much, an offer of all there is, a
 /// tick, and mostly a done flag in the next one.
 fn to_the_tick(table: &[u8], how_often: u64) -> Vec<u8> {
@@ -606,6 +679,20 @@ fn randoms(list: &mut Vec<RunVector>) {
             events.truncate(events.len() - 1 - random.below(5) as usize);
         }
         add(list, &format!("random-{seed:02}"), file, &[events]);
+    }
+}
+
+/// Random runs of random tables with margins.
+fn random_tables_with_margins(list: &mut Vec<RunVector>) {
+    for seed in 1..=10 {
+        let mut random = Random::new(500 + seed);
+        let n = random.between(3, 8);
+        let longest = [12, 40, 150][seed as usize % 3];
+        let file = random_accepted(&mut random, n, longest * 1.max(n / 3));
+        let file = random_margins(&mut random, &file);
+        let mut maker = Maker::new(&file);
+        maker.mixed(&mut random, 200, 40, 2 * longest);
+        add(list, &format!("random-margins-{seed:02}"), file, &[maker.bytes]);
     }
 }
 

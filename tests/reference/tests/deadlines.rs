@@ -1,10 +1,11 @@
 //! A check of the rules as they are read here: in random runs every hard job
-//! has its C by its deadline, and every accepted firm job its budget by its own.
+//! has its C by its deadline less its margin, and every accepted firm job its
+//! budget by its own.
 
 use reference::random::Random;
 use reference::station::{releases_row, Closing, Job, Last, Runner, Station};
 use reference::table::read_table;
-use reference::vectors::random_accepted;
+use reference::vectors::{random_accepted, random_margins};
 
 /// A firm job that was accepted, with the tick its budget must be run by.
 struct Promise {
@@ -26,8 +27,9 @@ fn random_releases(random: &mut Random, station: &Station) -> u16 {
 fn check_hard(station: &Station) {
     for hard in &station.rows {
         if let Some(job) = &hard.open {
-            let in_time = station.time < job.release + u128::from(hard.row.d);
-            assert!(in_time || job.run == u128::from(hard.row.c), "a hard job is late");
+            let due = job.release + u128::from(hard.row.d - hard.row.m);
+            let fully_run = job.run == u128::from(hard.row.c);
+            assert!(station.time < due || fully_run, "a hard job is late");
         }
     }
 }
@@ -43,12 +45,15 @@ fn check_firm(station: &Station, promises: &[Promise]) {
 
 #[test]
 fn no_job_is_late() {
-    let (mut hard_closed, mut firm_closed, mut firm_ran) = (0, 0, 0);
+    let (mut hard_closed, mut with_margin, mut firm_closed, mut firm_ran) = (0, 0, 0, 0);
     for seed in 0..300 {
         let mut random = Random::new(seed);
         let n = random.between(1, 6);
         let longest = random.between(4, 40);
-        let file = random_accepted(&mut random, n, longest * n);
+        let mut file = random_accepted(&mut random, n, longest * n);
+        if random.once_in(2) {
+            file = random_margins(&mut random, &file);
+        }
         let mut station = Station::new(&read_table(&file).unwrap());
         let mut promises = Vec::new();
         for _ in 0..500 {
@@ -74,7 +79,10 @@ fn no_job_is_late() {
                 }
             }
             match answer.closing {
-                Closing::Done(Job::Hard(_)) | Closing::Spent(Job::Hard(_)) => hard_closed += 1,
+                Closing::Done(Job::Hard(row)) | Closing::Spent(Job::Hard(row)) => {
+                    hard_closed += 1;
+                    with_margin += u64::from(station.rows[row - 1].row.m > 0);
+                }
                 Closing::Done(Job::Firm(_)) | Closing::Spent(Job::Firm(_)) => firm_closed += 1,
                 Closing::None => {}
             }
@@ -85,5 +93,5 @@ fn no_job_is_late() {
             check_firm(&station, &promises);
         }
     }
-    assert!(hard_closed > 1000 && firm_closed > 1000 && firm_ran > 1000);
+    assert!(hard_closed > 1000 && with_margin > 1000 && firm_closed > 1000 && firm_ran > 1000);
 }

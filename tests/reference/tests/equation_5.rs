@@ -69,7 +69,7 @@ fn claims(station: &Station, d: u16) -> i128 {
 fn station(numbers: &[(u16, u16, u16)]) -> Station {
     let ranked = numbers.iter().enumerate();
     let rows: Vec<Row> =
-        ranked.map(|(index, &(c, d, t))| Row { c, d, t, rank: index as u8 }).collect();
+        ranked.map(|(index, &(c, d, t))| Row { c, d, t, rank: index as u8, m: 0 }).collect();
     Station::new(&read_table(&file_of_rows(&rows)).unwrap())
 }
 
@@ -132,7 +132,7 @@ fn one_row(row: Row, promotion: u128, age: u16, run: Option<u128>) -> Station {
 fn the_claims_of_a_row_agree_exactly_where_the_page_says() {
     let (mut with_job, mut without) = (0, 0);
     let small = (1..=7).flat_map(|t| (1..=t).map(move |d| (d, t)));
-    let small = small.flat_map(|(d, t)| (1..=d).map(move |c| Row { c, d, t, rank: 0 }));
+    let small = small.flat_map(|(d, t)| (1..=d).map(move |c| Row { c, d, t, rank: 0, m: 0 }));
     for row in small {
         for promotion in 0..=u128::from(row.d - row.c) {
             for window in 1..=25 {
@@ -241,7 +241,7 @@ fn figure_2_of_document_004() {
     assert_eq!(printed(plain, 31), 11);
     assert_eq!(printed(Task { critical: 0, ..row }, 11), 4);
     assert_eq!(printed(Task { jitter: 0, ..row }, 2), 1);
-    let numbers = Row { c: 4, d: 9, t: 10, rank: 0 };
+    let numbers = Row { c: 4, d: 9, t: 10, rank: 0, m: 0 };
     let station = one_row(numbers, 3, 1, Some(1));
     assert_eq!([31, 11, 2].map(|d| claims(&station, d)), [11, 3, 0]);
 }
@@ -249,7 +249,7 @@ fn figure_2_of_document_004() {
 /// "Where they differ", 8.
 #[test]
 fn an_open_job_in_a_rested_row() {
-    let row = Row { c: 1, d: 4, t: 4, rank: 0 };
+    let row = Row { c: 1, d: 4, t: 4, rank: 0, m: 0 };
     let mut late = one_row(row, 3, 6, Some(0));
     assert_eq!((late.room(3), left_over(&late, 3, Form::Printed)), (2, 1));
     assert!(!guaranteed(&late, 2, 3, Form::Printed) && late.offer(2, 3).is_ok());
