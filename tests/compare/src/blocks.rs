@@ -4,14 +4,14 @@
 use crate::caller::Caller;
 use crate::counts::Counts;
 use crate::library::Asked;
-use crate::pair::{ask_table_back, file_bytes, on_wrong_length, table_back, Pair};
+use crate::pair::{ask_table_back, on_wrong_length, table_back, Pair};
 use crate::rollover::made_late;
 use crate::tables::{accepted, Kind};
 use crate::{expected, library};
-use reference::block::{decode, encode, BLOCK};
+use reference::block::{decode, encode, BLOCK, M_AT, RESERVED_AT};
 use reference::random::Random;
 use reference::station::Station;
-use reference::table::MOST_ROWS;
+use reference::table::LONGEST_TABLE;
 use std::fmt::Debug;
 
 pub fn case(seed: u64) -> Counts {
@@ -55,15 +55,14 @@ impl Judge {
     /// the library in one go; then, now and then, some calls more.
     fn block(&mut self, block: &[u8; BLOCK]) {
         let station = decode(block);
-        self.counts.blocks += 1;
-        self.counts.images += u64::from(station.is_some());
+        self.counts.judged(station.as_ref());
         let released = self.random.below(1 << 16) as u16 & self.random.below(1 << 16) as u16;
         let flags = self.random.below(5) as u8;
         let deadline = self.random.between(0, 40) as u16;
         let first = library::ask_tick(block, released, flags);
         let second = library::ask_tick(block, 0, 0);
         let offer = library::ask_offer(block, 1, deadline);
-        let table = ask_table_back(block, file_bytes(MOST_ROWS));
+        let table = ask_table_back(block, LONGEST_TABLE);
 
         let mut after = station.clone();
         let want = expected::tick(after.as_mut(), released, flags);
@@ -91,18 +90,18 @@ impl Judge {
         let mut block = *image;
         let below = |random: &mut Random, limit: usize| random.below(limit as u64) as usize;
         let random = &mut self.random;
-        match random.below(6) {
+        match random.below(8) {
             // Two to four bits.
             0 => {
                 for _ in 0..random.between(2, 4) {
                     block[below(random, BLOCK)] ^= 1 << random.below(8);
                 }
             }
-            // A byte of the first 320, where all has a meaning.
-            1 => block[below(random, 320)] = random.below(256) as u8,
+            // A byte that is not reserved.
+            1 => block[below(random, RESERVED_AT)] = random.below(256) as u8,
             // A number next to the one that was there.
             2 => {
-                let place = below(random, 320);
+                let place = below(random, RESERVED_AT);
                 block[place] = block[place].wrapping_add(1).wrapping_sub(2 * random.below(2) as u8);
             }
             // A part of another state.
@@ -112,7 +111,10 @@ impl Judge {
                 block[from..to].copy_from_slice(&other[from..to]);
             }
             // Two bytes of this one exchanged.
-            4 => block.swap(below(random, 320), below(random, 320)),
+            4 => block.swap(below(random, RESERVED_AT), below(random, RESERVED_AT)),
+            // Another margin, or one of a row that is not there.
+            5 => block = with_another_margin(random, image),
+            6 => block[M_AT + below(random, RESERVED_AT - M_AT)] = random.below(256) as u8,
             // Nothing of it left.
             _ => block.iter_mut().for_each(|byte| *byte = random.below(256) as u8),
         }
@@ -127,6 +129,28 @@ impl Judge {
             }
         }
     }
+}
+
+/// The image with another margin in a row: the largest beside its U, one more or any
+/// less. Half of the time U is lowered first, so that the margin can be larger than
+/// planning allows.
+fn with_another_margin(random: &mut Random, image: &[u8; BLOCK]) -> [u8; BLOCK] {
+    let mut station = decode(image).expect("an image");
+    let rows = station.rows.len() as u64;
+    if rows > 0 {
+        let hard = &mut station.rows[random.below(rows) as usize];
+        if random.once_in(2) {
+            hard.promotion = u128::from(random.between(0, hard.promotion as u64));
+        }
+        let largest = u64::from(hard.row.d - hard.row.c) - hard.promotion as u64;
+        let m = match random.below(3) {
+            0 => largest,
+            1 => largest + 1,
+            _ => random.between(0, largest),
+        };
+        hard.row.m = m as u16;
+    }
+    encode(&station)
 }
 
 /// The answer of a call on a copy of the block, which is the one wanted. It left the

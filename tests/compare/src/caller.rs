@@ -176,10 +176,11 @@ impl Caller {
         }
         let hard = &station.rows[self.random.below(rows) as usize];
         let until = hard.until_rested(station.time) + hard.promotion;
-        match self.random.below(4) {
+        match self.random.below(5) {
             0 => hard.row.d,
-            1 => hard.row.t,
-            2 => (until as u16).saturating_add(1),
+            1 => hard.row.d - hard.row.m,
+            2 => hard.row.t,
+            3 => (until as u16).saturating_add(1),
             _ => (until as u16).saturating_add(hard.row.c).max(1),
         }
     }

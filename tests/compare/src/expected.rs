@@ -3,7 +3,7 @@
 use crate::library::{flag, kind, OfferAnswer, PlanAnswer, TableAnswer, TickAnswer};
 use reference::block::BLOCK;
 use reference::station::{Answer, Band, Closing, Job, Refusal, Runner, Station};
-use reference::table::{read_table, write_table, Row, Table, ROW_FIELD};
+use reference::table::{read_table, write_table, Table};
 
 /// Planning: 11 for the length only, then the file.
 pub fn plan(table: &[u8], block_bytes: usize) -> (PlanAnswer, Option<Table>) {
@@ -13,11 +13,9 @@ pub fn plan(table: &[u8], block_bytes: usize) -> (PlanAnswer, Option<Table>) {
     match read_table(table) {
         Ok(table) => (PlanAnswer::default(), Some(table)),
         Err(refusal) => {
-            let row =
-                if (6..=10).contains(&refusal.number) { refusal.from / ROW_FIELD + 1 } else { 0 };
             let answer = PlanAnswer {
                 refusal: u64::from(refusal.number),
-                row: row as u64,
+                row: refusal.row.unwrap_or(0) as u64,
                 from: refusal.from as u64,
                 size: refusal.size as u64,
             };
@@ -99,8 +97,7 @@ pub fn table(station: Option<&Station>, out: &mut [u8]) -> TableAnswer {
     let Some(station) = station else {
         return TableAnswer { refusal: 11, size: 0 };
     };
-    let rows: Vec<Row> = station.rows.iter().map(|hard| hard.row).collect();
-    match write_table(&rows, out) {
+    match write_table(&station.table_rows(), out) {
         Ok(size) => TableAnswer { refusal: 0, size: size as u64 },
         Err(number) => TableAnswer { refusal: u64::from(number), size: 0 },
     }

@@ -33,9 +33,12 @@ static SUITES: [Suite; 4] = [
         cases: 980,
         enough: |tried| {
             let every_refusal = (11..=20).all(|number| tried.met(number));
+            let margins = tried.margins.rows.min(tried.margins.largest).min(tried.margins.mixed);
             tried.calls >= 1_000_000
                 && every_refusal
+                && margins >= 100
                 && tried.seen.hard >= 10_000
+                && tried.seen.less_margin_to_the_tick >= 10_000
                 && tried.seen.uploads >= 10_000
         },
     },
@@ -45,7 +48,10 @@ static SUITES: [Suite; 4] = [
         cases: 2100,
         enough: |tried| {
             let rolled = tried.clocks_rolled.min(tried.tickets_rolled).min(tried.slept);
-            rolled >= 500 && tried.seen.hard >= 10_000 && tried.seen.uploads >= 10_000
+            rolled >= 500
+                && tried.seen.hard >= 10_000
+                && tried.seen.less_margin_to_the_tick >= 1_000
+                && tried.seen.uploads >= 10_000
         },
     },
     Suite {
@@ -56,14 +62,21 @@ static SUITES: [Suite; 4] = [
             tried.blocks >= 1_000_000
                 && tried.images >= 100_000
                 && tried.images < tried.blocks / 2
+                && tried.images_with_margin >= 10_000
                 && tried.met(10)
+                && tried.met(22)
         },
     },
     Suite {
         name: "programs",
         case: programs::case,
         cases: 2800,
-        enough: |tried| tried.programs >= 5_000 && (1..=10).all(|number| tried.met(number)),
+        enough: |tried| {
+            let mut table_refusals = (1..=10).chain(21..=22);
+            tried.programs >= 5_000
+                && table_refusals.all(|number| tried.met(number))
+                && tried.margins.largest.min(tried.margins.mixed) >= 100
+        },
     },
 ];
 

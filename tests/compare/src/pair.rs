@@ -7,7 +7,7 @@ use crate::watch::Watch;
 use crate::{expected, library};
 use reference::block::{encode, BLOCK};
 use reference::station::{releases_row, HardRow, Station, ROLL_OVER};
-use reference::table::{Row, HEADER, MOST_ROWS, ROW_FIELD};
+use reference::table::{file_of_rows, LONGEST_TABLE};
 use std::fmt::Debug;
 
 /// What an output holds before it is written.
@@ -43,7 +43,7 @@ pub fn on_wrong_length(block: &[u8; BLOCK], bytes: usize, flags: u8) -> [u64; 4]
     let plan = library::ask_plan(&lent, &file);
     let tick = library::ask_tick(&lent, 0, flags);
     let offer = library::ask_offer(&lent, 1, 9);
-    let table = ask_table_back(&lent, file_bytes(MOST_ROWS));
+    let table = ask_table_back(&lent, LONGEST_TABLE);
 
     let plan = plan.answered();
     assert_eq!(plan.answer, expected::plan(&file, bytes).0, "planning on {bytes} bytes");
@@ -56,11 +56,6 @@ pub fn on_wrong_length(block: &[u8; BLOCK], bytes: usize, flags: u8) -> [u64; 4]
     }
     let table = table_back(table, &lent, None);
     [plan.answer.refusal, tick.answer.refusal, offer.answer.refusal, table]
-}
-
-/// The length of a table's file.
-pub fn file_bytes(rows: usize) -> usize {
-    ROW_FIELD * rows + HEADER
 }
 
 /// After so many calls the table is read back.
@@ -83,9 +78,10 @@ impl Pair {
         let answer = library::plan(&mut block, file);
         let (want, table) = expected::plan(file, BLOCK);
         assert_eq!(answer, want, "planning");
-        let station = Station::new(&table.expect("an accepted table"));
-        let pair = Pair::new(station, block);
+        let table = table.expect("an accepted table");
+        let mut pair = Pair::new(Station::new(&table), block);
         pair.agree(&"planning");
+        pair.counts.planned(&table);
         pair
     }
 
@@ -101,8 +97,7 @@ impl Pair {
 
     /// Watches demand 3 from here on. Only for what a fresh state leads to.
     pub fn watched(mut self) -> Pair {
-        let rows: Vec<Row> = self.station.rows.iter().map(|hard| hard.row).collect();
-        self.watch = Some(Watch::new(&rows));
+        self.watch = Some(Watch::new(&self.station.table_rows()));
         self
     }
 
@@ -177,7 +172,8 @@ impl Pair {
     /// The table read back, in turn into an output two bytes too short and up to
     /// one two bytes too long.
     fn table(&mut self) {
-        let bytes = file_bytes(self.station.rows.len()) - 2 + self.made / BETWEEN_TABLES % 5;
+        let file_bytes = file_of_rows(&self.station.table_rows()).len();
+        let bytes = file_bytes - 2 + self.made / BETWEEN_TABLES % 5;
         let asked = ask_table_back(&self.block, bytes);
         self.counts.call(table_back(asked, &self.block, Some(&self.station)));
     }

@@ -11,7 +11,9 @@ use reference::event::{offer_field, tick_field};
 use reference::programs;
 use reference::random::Random;
 use reference::station::Station;
-use reference::table::{file_of_rows, read_table, scan};
+use reference::table::{
+    bound, check_rows, end_field, margin_row_field, read_table, row_field, rows_of, scan, Row,
+};
 use std::fs;
 use std::io::Write;
 use std::process::Stdio;
@@ -29,7 +31,7 @@ pub fn case(seed: u64) -> Counts {
 
     let mut counts = Counts::default();
     assert_eq!(plan(&table), programs::plan(&table), "plan on {table:02x?}");
-    counts.call(planned(&table));
+    planned(&mut counts, &table);
     let (table, events) = (kept(&mut random, table), kept(&mut random, events));
     let bytes = |file: &Option<Vec<u8>>| file.clone().unwrap_or_default();
     let want = programs::run(&bytes(&table), &bytes(&events));
@@ -71,16 +73,19 @@ fn run(seed: u64, table: &Option<Vec<u8>>, events: &Option<Vec<u8>>) -> String {
     String::from_utf8(output.stdout).expect("run prints text")
 }
 
-/// Planning through the header; the refusal, or 0.
-fn planned(table: &[u8]) -> u64 {
+/// Planning through the header.
+fn planned(counts: &mut Counts, table: &[u8]) {
     let before = [0x3c; BLOCK];
     let mut block = before;
     let answer = library::plan(&mut block, table);
     let (want, accepted) = expected::plan(table, BLOCK);
     assert_eq!(answer, want, "planning {table:02x?}");
-    let after = accepted.map_or(before, |table| encode(&Station::new(&table)));
+    let after = accepted.as_ref().map_or(before, |table| encode(&Station::new(table)));
     assert!(block == after, "the block after planning {table:02x?}");
-    answer.refusal
+    counts.call(answer.refusal);
+    if let Some(accepted) = accepted {
+        counts.planned(&accepted);
+    }
 }
 
 /// The events of a caller of some manner, on a table that is accepted.
@@ -110,18 +115,32 @@ fn events(random: &mut Random, table: &[u8]) -> Vec<u8> {
     bytes
 }
 
-/// The table with another number in a row, or with some rows too many. It may
-/// still be a good one.
+/// The table with one or two faults in its rows, and now and then with a row that
+/// has the tag of a margin and none. It may still be a good one.
 fn with_wrong_rows(random: &mut Random, table: Vec<u8>) -> Vec<u8> {
-    let mut rows = scan(&table).expect("an accepted table");
+    let mut rows = rows_of(&scan(&table).expect("an accepted table"));
     if rows.is_empty() {
         return table;
     }
+    for _ in 0..random.between(1, 2) {
+        put_fault(random, &mut rows);
+    }
+    let mut fields: Vec<Vec<u8>> = rows.iter().map(row_field).collect();
+    if random.once_in(4) {
+        let place = random.below(rows.len() as u64) as usize;
+        fields[place] = margin_row_field(&Row { m: 0, ..rows[place] });
+    }
+    [fields.concat(), end_field()].concat()
+}
+
+/// Puts another number in a row, or adds some rows too many.
+fn put_fault(random: &mut Random, rows: &mut Vec<Row>) {
     let place = random.below(rows.len() as u64) as usize;
+    let fitting = largest_margin(rows, place);
     let row = &mut rows[place];
     let width = random.between(1, 16);
     let any = random.below(1 << width) as u16;
-    match random.below(7) {
+    match random.below(9) {
         0 => row.c = 0,
         1 => row.c = any,
         2 => row.d = any,
@@ -129,12 +148,23 @@ fn with_wrong_rows(random: &mut Random, table: Vec<u8>) -> Vec<u8> {
         4 => row.rank = random.below(17) as u8,
         // Less time for the same work.
         5 => row.d = row.c,
+        6 => row.m = any,
+        // One tick more than fits.
+        7 => row.m = fitting + 1,
         _ => {
             let again = *row;
             rows.resize(rows.len() + random.between(1, 16) as usize, again);
         }
     }
-    file_of_rows(&rows)
+}
+
+/// The largest margin that fits in a row, D - R; 0 where another number is wrong.
+fn largest_margin(rows: &[Row], place: usize) -> u16 {
+    let plain: Vec<Row> = rows.iter().map(|row| Row { m: 0, ..*row }).collect();
+    if check_rows(&plain).is_err() {
+        return 0;
+    }
+    bound(&plain, place).map_or(0, |found| found.promotion as u16)
 }
 
 /// The file with some of its bytes changed, lost or made up.

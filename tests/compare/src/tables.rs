@@ -1,8 +1,8 @@
-//! Random tables that are accepted, of several kinds.
+//! Random tables that are accepted, of several kinds, with and without margins.
 
 use reference::random::Random;
 use reference::table::{file_of_rows, read_table, Row};
-use reference::vectors::random_accepted;
+use reference::vectors::{random_accepted, with_margins};
 
 #[derive(Clone, Copy, Debug, PartialEq, Eq)]
 pub enum Kind {
@@ -39,8 +39,52 @@ impl Kind {
     }
 }
 
-/// The file of a table of this kind.
+/// Which rows of a table have a margin.
+#[derive(Clone, Copy, Debug)]
+enum Margined {
+    None,
+    Some,
+    /// All that have a tick to spare.
+    All,
+}
+
+/// How large the margins of a table are.
+#[derive(Clone, Copy, Debug)]
+enum Size {
+    One,
+    Any,
+    /// As large as may be, D - R.
+    Largest,
+}
+
+/// The file of a table of this kind, with margins of some manner.
 pub fn accepted(random: &mut Random, kind: Kind) -> Vec<u8> {
+    let plain = without_margins(random, kind);
+    let margined = [Margined::None, Margined::Some, Margined::All][random.below(3) as usize];
+    let size = [Size::One, Size::Any, Size::Largest][random.below(3) as usize];
+    let file = with_margins(&plain, |largest| margin(random, margined, size, largest));
+    assert!(read_table(&file).is_ok(), "margins meant to be accepted: {file:02x?}");
+    file
+}
+
+/// The margin of a row, where `largest` is the largest that it may have.
+fn margin(random: &mut Random, margined: Margined, size: Size, largest: u64) -> u64 {
+    let has_one = match margined {
+        Margined::None => false,
+        Margined::Some => random.once_in(2),
+        Margined::All => true,
+    };
+    if !has_one || largest == 0 {
+        return 0;
+    }
+    match size {
+        Size::One => 1,
+        Size::Any => random.between(1, largest),
+        Size::Largest => largest,
+    }
+}
+
+fn without_margins(random: &mut Random, kind: Kind) -> Vec<u8> {
     let rows = match kind {
         Kind::Empty => Vec::new(),
         Kind::EveryTick => every_tick(random),
@@ -69,7 +113,7 @@ fn ranked(random: &mut Random, numbers: &[(u64, u64, u64)]) -> Vec<Row> {
     let mut left: Vec<u8> = (0..numbers.len() as u8).collect();
     let rows = numbers.iter().map(|&(c, d, t)| {
         let rank = left.remove(random.below(left.len() as u64) as usize);
-        Row { c: c as u16, d: d as u16, t: t as u16, rank }
+        Row { c: c as u16, d: d as u16, t: t as u16, rank, m: 0 }
     });
     rows.collect()
 }

@@ -4,6 +4,7 @@
 use crate::library::{flag, kind, OfferAnswer, TickAnswer};
 use reference::station::releases_row;
 use reference::table::Row;
+use std::ops::AddAssign;
 
 /// A job that is owed ticks: a hard job since its release, or an upload since
 /// its acceptance.
@@ -11,12 +12,14 @@ use reference::table::Row;
 struct Owed {
     /// C or the budget.
     work: u64,
-    /// D or the upload's deadline.
+    /// D less the margin, or the upload's deadline.
     deadline: u64,
     /// Ticks stepped since.
     stepped: u64,
     /// Answers since that named it.
     named: u64,
+    /// Which of the ticks since was the last that named it, counted from 1.
+    last_named: u64,
     done: bool,
     closed: bool,
 }
@@ -32,6 +35,9 @@ struct Upload {
 pub struct Seen {
     /// Deadlines of hard jobs that passed.
     pub hard: u64,
+    /// Those of rows with a margin; and those met by the very last tick.
+    pub less_margin: u64,
+    pub less_margin_to_the_tick: u64,
     /// Deadlines of uploads that passed.
     pub uploads: u64,
 }
@@ -46,7 +52,7 @@ pub struct Watch {
 
 impl Owed {
     fn new(work: u64, deadline: u64) -> Owed {
-        Owed { work, deadline, stepped: 0, named: 0, done: false, closed: false }
+        Owed { work, deadline, stepped: 0, named: 0, last_named: 0, done: false, closed: false }
     }
 
     fn close(&mut self, done: bool) {
@@ -59,6 +65,7 @@ impl Owed {
     fn name(&mut self) {
         assert!(!self.closed, "runs after it closed");
         self.named += 1;
+        self.last_named = self.stepped + 1;
         assert!(self.named <= self.work, "runs more than it may");
     }
 
@@ -70,8 +77,32 @@ impl Owed {
         due
     }
 
+    /// Whether it ran its last tick of work just before its deadline.
+    fn to_the_tick(&self) -> bool {
+        self.named == self.work && self.last_named == self.deadline
+    }
+
     fn over(&self) -> bool {
         self.closed && self.stepped >= self.deadline
+    }
+}
+
+impl Seen {
+    fn hard_deadline(&mut self, row: &Row, owed: &Owed) {
+        self.hard += 1;
+        if row.m > 0 {
+            self.less_margin += 1;
+            self.less_margin_to_the_tick += u64::from(owed.to_the_tick());
+        }
+    }
+}
+
+impl AddAssign for Seen {
+    fn add_assign(&mut self, other: Seen) {
+        self.hard += other.hard;
+        self.less_margin += other.less_margin;
+        self.less_margin_to_the_tick += other.less_margin_to_the_tick;
+        self.uploads += other.uploads;
     }
 }
 
@@ -90,12 +121,16 @@ impl Watch {
         self.closing(flags, answer);
         for (index, row) in self.rows.iter().enumerate() {
             if releases_row(released, index + 1) {
-                self.hard[index] = Some(Owed::new(u64::from(row.c), u64::from(row.d)));
+                let due = row.d - row.m;
+                self.hard[index] = Some(Owed::new(u64::from(row.c), u64::from(due)));
             }
         }
         self.runner(answer);
-        for owed in self.hard.iter_mut().flatten() {
-            self.seen.hard += u64::from(owed.step());
+        for (row, owed) in self.rows.iter().zip(&mut self.hard) {
+            let Some(owed) = owed else { continue };
+            if owed.step() {
+                self.seen.hard_deadline(row, owed);
+            }
         }
         for upload in &mut self.uploads {
             self.seen.uploads += u64::from(upload.owed.step());
@@ -148,7 +183,12 @@ mod tests {
 
     /// Row 1 alone: C 2, D 3, T 5.
     fn watch() -> Watch {
-        Watch::new(&[Row { c: 2, d: 3, t: 5, rank: 0 }])
+        Watch::new(&[Row { c: 2, d: 3, t: 5, rank: 0, m: 0 }])
+    }
+
+    /// The same row with D 5, of which 2 are a margin.
+    fn watch_with_margin() -> Watch {
+        Watch::new(&[Row { c: 2, d: 5, t: 5, rank: 0, m: 2 }])
     }
 
     fn idle() -> TickAnswer {
@@ -188,6 +228,35 @@ mod tests {
         watch.tick(0, 1, closes_hard(idle(), kind::DONE));
         watch.tick(0, 0, idle());
         assert_eq!(watch.seen.hard, 1);
+    }
+
+    #[test]
+    fn a_job_in_time_less_its_margin() {
+        let mut watch = watch_with_margin();
+        watch.tick(1, 0, idle());
+        watch.tick(0, 0, hard());
+        watch.tick(0, 0, hard());
+        let seen = watch.seen;
+        assert_eq!((seen.hard, seen.less_margin, seen.less_margin_to_the_tick), (1, 1, 1));
+    }
+
+    #[test]
+    fn a_job_with_a_tick_to_spare_before_its_margin() {
+        let mut watch = watch_with_margin();
+        watch.tick(1, 0, hard());
+        watch.tick(0, 0, hard());
+        watch.tick(0, 0, closes_hard(idle(), kind::SPENT));
+        let seen = watch.seen;
+        assert_eq!((seen.hard, seen.less_margin, seen.less_margin_to_the_tick), (1, 1, 0));
+    }
+
+    #[test]
+    #[should_panic(expected = "late")]
+    fn a_job_that_uses_its_margin() {
+        let mut watch = watch_with_margin();
+        watch.tick(1, 0, idle());
+        watch.tick(0, 0, idle());
+        watch.tick(0, 0, hard());
     }
 
     #[test]
