@@ -115,27 +115,29 @@ fn events(random: &mut Random, table: &[u8]) -> Vec<u8> {
     bytes
 }
 
-/// The table with one or two faults in its rows, and now and then with a row that
-/// has the tag of a margin and none. It may still be a good one.
+/// The table with a fault in a row, now and then with one in another row, and now
+/// and then with the tag of a margin and none in the first. It may still be a good
+/// one.
 fn with_wrong_rows(random: &mut Random, table: Vec<u8>) -> Vec<u8> {
     let mut rows = rows_of(&scan(&table).expect("an accepted table"));
     if rows.is_empty() {
         return table;
     }
-    for _ in 0..random.between(1, 2) {
-        put_fault(random, &mut rows);
+    let place = random.below(rows.len() as u64) as usize;
+    put_fault(random, &mut rows, place);
+    if random.once_in(2) {
+        let other = random.below(rows.len() as u64) as usize;
+        put_fault(random, &mut rows, other);
     }
     let mut fields: Vec<Vec<u8>> = rows.iter().map(row_field).collect();
-    if random.once_in(4) {
-        let place = random.below(rows.len() as u64) as usize;
+    if random.once_in(3) {
         fields[place] = margin_row_field(&Row { m: 0, ..rows[place] });
     }
     [fields.concat(), end_field()].concat()
 }
 
 /// Puts another number in a row, or adds some rows too many.
-fn put_fault(random: &mut Random, rows: &mut Vec<Row>) {
-    let place = random.below(rows.len() as u64) as usize;
+fn put_fault(random: &mut Random, rows: &mut Vec<Row>, place: usize) {
     let fitting = largest_margin(rows, place);
     let row = &mut rows[place];
     let width = random.between(1, 16);
