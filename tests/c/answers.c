@@ -42,7 +42,8 @@ HELD(table_answer_has_16_bytes, sizeof(heechstjer_table_answer) == 16);
 AT(table, size, 0);
 AT(table, refusal, 8);
 
-HELD(longest_table, HEECHSTJER_MOST_TABLE_BYTES == HEECHSTJER_MOST_ROWS * HEECHSTJER_ROW_BYTES + HEECHSTJER_END_BYTES);
+HELD(longest_table, HEECHSTJER_MOST_TABLE_BYTES
+                        == HEECHSTJER_MOST_ROWS * HEECHSTJER_MARGIN_ROW_BYTES + HEECHSTJER_END_BYTES);
 
 /* ---- What the tests are written with ---- */
 
@@ -95,24 +96,41 @@ static const uint8_t table_a[] = {
     0x0f, 0x00, 0x00,
 };
 
+/* Table A with margins 1 and 5: U 3 and 0. */
+static const uint8_t table_a_with_margins[] = {
+    0x02, 0x00, 0x09, 0x00, 0x02, 0x00, 0x06, 0x00, 0x08, 0x00, 0x00, 0x01,
+    0x02, 0x00, 0x09, 0x00, 0x05, 0x00, 0x0c, 0x00, 0x0c, 0x01, 0x00, 0x05,
+    0x0f, 0x00, 0x00,
+};
+
 static const uint8_t empty_table[] = {0x0f, 0x00, 0x00};
 
-/* Writes n rows (C, D, T, rank) and the end field; returns the length. */
-static size_t write_table(uint8_t *out, const uint16_t rows[][4], size_t n)
+/* The numbers of a row that a test writes. */
+enum { C, D, T, RANK, M, NUMBERS };
+
+static uint8_t *write_number(uint8_t *out, uint16_t number)
 {
-    size_t at = 0;
+    *out++ = (uint8_t)(number >> 8);
+    *out++ = (uint8_t)number;
+    return out;
+}
+
+/* Writes n rows and the end field; returns the length. A row has M and its tag where M is not 0. */
+static size_t write_table(uint8_t *out, const uint16_t rows[][NUMBERS], size_t n)
+{
+    uint8_t *next = out;
     for (size_t i = 0; i < n; i++) {
-        out[at++] = 0x01;
-        out[at++] = 0x00;
-        out[at++] = 0x07;
-        for (int k = 0; k < 3; k++) {
-            out[at++] = (uint8_t)(rows[i][k] >> 8);
-            out[at++] = (uint8_t)rows[i][k];
-        }
-        out[at++] = (uint8_t)rows[i][3];
+        bool margin = rows[i][M] != 0;
+        *next++ = margin ? 0x02 : 0x01;
+        next = write_number(next, margin ? 9 : 7);
+        for (int k = C; k <= T; k++)
+            next = write_number(next, rows[i][k]);
+        *next++ = (uint8_t)rows[i][RANK];
+        if (margin)
+            next = write_number(next, rows[i][M]);
     }
-    memcpy(out + at, empty_table, sizeof empty_table);
-    return at + sizeof empty_table;
+    memcpy(next, empty_table, sizeof empty_table);
+    return (size_t)(next - out) + sizeof empty_table;
 }
 
 static bool plan_is(heechstjer_plan_answer a, unsigned refusal, size_t from, size_t size, unsigned row)
@@ -129,7 +147,7 @@ static station planned(const uint8_t *table, size_t bytes)
     return s;
 }
 
-static station planned_rows(const uint16_t rows[][4], size_t n)
+static station planned_rows(const uint16_t rows[][NUMBERS], size_t n)
 {
     uint8_t table[HEECHSTJER_MOST_TABLE_BYTES];
     return planned(table, write_table(table, rows, n));
@@ -265,9 +283,9 @@ static void refusals_have_their_numbers(void)
         HEECHSTJER_REFUSED_NOT_IMAGE, HEECHSTJER_REFUSED_UNKNOWN_ROW, HEECHSTJER_REFUSED_NONE_RAN,
         HEECHSTJER_REFUSED_NOT_READY, HEECHSTJER_REFUSED_B_ZERO, HEECHSTJER_REFUSED_D_UNDER_B,
         HEECHSTJER_REFUSED_QUEUE_FULL, HEECHSTJER_REFUSED_ROOM_SHORT, HEECHSTJER_REFUSED_SMALL_OUTPUT,
-        HEECHSTJER_REFUSED_UNKNOWN_FLAG,
+        HEECHSTJER_REFUSED_UNKNOWN_FLAG, HEECHSTJER_REFUSED_M_ZERO, HEECHSTJER_REFUSED_R_M_OVER_D,
     };
-    for (int i = 0; i <= 20; i++)
+    for (int i = 0; i <= 22; i++)
         EXPECT(numbers[i] == i);
 }
 
@@ -305,6 +323,18 @@ static void rows_in_c_are_the_bytes_of_a_file(void)
     EXPECT(sizeof made == HEECHSTJER_ROW_BYTES && sizeof none == HEECHSTJER_END_BYTES);
 }
 
+static void rows_with_margins_in_c_are_the_bytes_of_a_file(void)
+{
+    static const uint8_t a[] = {
+        HEECHSTJER_MARGIN_ROW(2, 6, 8, 0, 1), HEECHSTJER_MARGIN_ROW(5, 12, 12, 1, 5), HEECHSTJER_END,
+    };
+    static const uint8_t made[] = {HEECHSTJER_MARGIN_ROW(0x1234, 8, 0xabcd, 2, 0x0506)};
+    static const uint8_t made_bytes[] = {2, 0, 9, 0x12, 0x34, 0, 8, 0xab, 0xcd, 2, 5, 6};
+    EXPECT(sizeof a == sizeof table_a_with_margins && memcmp(a, table_a_with_margins, sizeof a) == 0);
+    EXPECT(sizeof made == sizeof made_bytes && memcmp(made, made_bytes, sizeof made) == 0);
+    EXPECT(sizeof made == HEECHSTJER_MARGIN_ROW_BYTES);
+}
+
 /* ---- Planning ---- */
 
 typedef struct plan_case {
@@ -313,22 +343,30 @@ typedef struct plan_case {
     size_t from, size;
     unsigned row;
     size_t bytes;
-    uint8_t table[26];
+    uint8_t table[37];
 } plan_case;
 
 #define ROW HEECHSTJER_ROW
+#define MARGIN_ROW HEECHSTJER_MARGIN_ROW
 #define END HEECHSTJER_END
+
+/* Rows of both lengths, R 1 and 2; the margin of the second just fits. */
+#define TWO_ROWS ROW(1, 9, 9, 0), MARGIN_ROW(1, 9, 9, 1, 7)
 
 static const plan_case plan_cases[] = {
     {"refusal 1: a table of no bytes shows none", 1, 0, 0, 0, 0, {0}},
     {"refusal 1: two bytes where a field must start", 1, 0, 2, 0, 2, {0x0f, 0x00}},
     {"refusal 1: no end field shows the empty rest", 1, 10, 0, 0, 10, {ROW(2, 6, 8, 0)}},
     {"refusal 1: a value that is cut shows its field", 1, 10, 9, 0, 19, {ROW(2, 6, 8, 0), 1, 0, 7, 1, 2, 3, 4, 5, 6}},
-    {"refusal 2: an unknown tag", 2, 10, 3, 0, 14, {ROW(2, 6, 8, 0), 0x02, 0x00, 0x07, 0xff}},
+    {"refusal 1: a value that is cut within M", 1, 10, 11, 0, 21, {ROW(2, 6, 8, 0), 2, 0, 9, 1, 2, 3, 4, 5, 6, 7, 8}},
+    {"refusal 1: no end field after a row with a margin", 1, 12, 0, 0, 12, {MARGIN_ROW(2, 6, 8, 0, 1)}},
+    {"refusal 2: an unknown tag", 2, 10, 3, 0, 14, {ROW(2, 6, 8, 0), 0x04, 0x00, 0x07, 0xff}},
     {"refusal 2: the tag before the length", 2, 0, 3, 0, 3, {0x00, 0xff, 0xff}},
     {"refusal 3: a row of length 6", 3, 0, 3, 0, 12, {0x01, 0x00, 0x06, 0, 2, 0, 6, 0, 8, END}},
     {"refusal 3: an end field of length 1", 3, 0, 3, 0, 4, {0x0f, 0x00, 0x01, 0x00}},
     {"refusal 3: a length of 0x0107", 3, 0, 3, 0, 3, {0x01, 0x01, 0x07}},
+    {"refusal 3: a row with a margin of length 7", 3, 10, 3, 0, 14, {ROW(2, 6, 8, 0), 0x02, 0x00, 0x07, 0xff}},
+    {"refusal 3: a row without a margin of length 9", 3, 12, 3, 0, 15, {MARGIN_ROW(2, 6, 8, 0, 1), 0x01, 0x00, 0x09}},
     {"refusal 4: bytes after the end field", 4, 13, 2, 0, 15, {ROW(2, 6, 8, 0), END, 0x0f, 0x00}},
     {"refusal 4 before 6", 4, 13, 1, 0, 14, {ROW(0, 6, 8, 0), END, 0x00}},
     {"refusal 6: C = 0 in row 2", 6, 10, 10, 2, 23, {ROW(2, 6, 8, 0), ROW(0, 6, 8, 1), END}},
@@ -341,6 +379,24 @@ static const plan_case plan_cases[] = {
     {"refusal 9 in row 1 before 6 in row 2", 9, 0, 10, 1, 23, {ROW(2, 6, 8, 2), ROW(0, 9, 9, 1), END}},
     {"refusal 6 in row 2 before 10 in row 2", 6, 10, 10, 2, 23, {ROW(2, 4, 4, 0), ROW(0, 4, 4, 1), END}},
     {"refusal 10: (2,4,4) over (3,4,4)", 10, 10, 10, 2, 23, {ROW(2, 4, 4, 0), ROW(3, 4, 4, 1), END}},
+    {"refusal 6 after rows of both lengths", 6, 22, 12, 3, 37, {TWO_ROWS, MARGIN_ROW(0, 9, 9, 2, 1), END}},
+    {"refusal 7 after rows of both lengths", 7, 22, 12, 3, 37, {TWO_ROWS, MARGIN_ROW(9, 8, 9, 2, 1), END}},
+    {"refusal 8 after rows of both lengths", 8, 22, 12, 3, 37, {TWO_ROWS, MARGIN_ROW(1, 10, 9, 2, 1), END}},
+    {"refusal 9 after rows of both lengths", 9, 22, 12, 3, 37, {TWO_ROWS, MARGIN_ROW(1, 9, 9, 1, 1), END}},
+    {"refusal 10 after rows of both lengths", 10, 22, 12, 3, 37, {TWO_ROWS, MARGIN_ROW(8, 9, 9, 2, 1), END}},
+    {"refusal 10 without a margin, after both lengths", 10, 22, 10, 3, 35, {TWO_ROWS, ROW(8, 9, 9, 2), END}},
+    {"refusal 21: M = 0 in row 1", 21, 0, 12, 1, 15, {MARGIN_ROW(2, 6, 8, 0, 0), END}},
+    {"refusal 21 after rows of both lengths", 21, 22, 12, 3, 37, {TWO_ROWS, MARGIN_ROW(1, 9, 9, 2, 0), END}},
+    {"refusal 9 before 21", 9, 0, 12, 1, 15, {MARGIN_ROW(2, 6, 8, 1, 0), END}},
+    {"refusal 21 in row 1 before 6 in row 2", 21, 0, 12, 1, 25, {MARGIN_ROW(2, 6, 8, 0, 0), ROW(0, 9, 9, 1), END}},
+    {"refusal 21 in row 3 before 10 in row 2", 21, 20, 12, 3, 35,
+     {ROW(2, 4, 4, 0), ROW(3, 4, 4, 1), MARGIN_ROW(1, 9, 9, 2, 0), END}},
+    {"refusal 21 in row 2 before 22 in row 1", 21, 12, 12, 2, 27,
+     {MARGIN_ROW(2, 4, 4, 0, 3), MARGIN_ROW(1, 9, 9, 1, 0), END}},
+    {"refusal 22: M one tick too large in row 1", 22, 0, 12, 1, 15, {MARGIN_ROW(2, 6, 8, 0, 5), END}},
+    {"refusal 22 after rows of both lengths", 22, 22, 12, 3, 37, {TWO_ROWS, MARGIN_ROW(1, 9, 9, 2, 7), END}},
+    {"refusal 10 before 22", 10, 10, 12, 2, 25, {ROW(2, 4, 4, 0), MARGIN_ROW(3, 4, 4, 1, 9), END}},
+    {"refusal 22 in row 1 before 10 in row 2", 22, 0, 12, 1, 25, {MARGIN_ROW(2, 4, 4, 0, 3), ROW(3, 4, 4, 1), END}},
 };
 
 static void plan_refuses(const plan_case *c)
@@ -361,27 +417,38 @@ static void plan_refuses(const plan_case *c)
     free(table);
 }
 
-static void refusal_5_for_a_17th_row(void)
+/* The 17th row, where those before it have this margin and it has that one. */
+static void row_17_is_refused(uint16_t margin, uint16_t margin_17)
 {
-    uint8_t table[17 * HEECHSTJER_ROW_BYTES + HEECHSTJER_END_BYTES];
-    uint16_t rows[17][4];
+    uint8_t table[HEECHSTJER_MOST_TABLE_BYTES + HEECHSTJER_MARGIN_ROW_BYTES];
+    uint16_t rows[17][NUMBERS];
     station s, before;
+    size_t from = 16 * (margin != 0 ? HEECHSTJER_MARGIN_ROW_BYTES : HEECHSTJER_ROW_BYTES);
     for (uint16_t i = 0; i < 17; i++) {
-        rows[i][0] = 1;
-        rows[i][1] = rows[i][2] = 100;
-        rows[i][3] = (uint16_t)(16 - i);
+        rows[i][C] = 1;
+        rows[i][D] = rows[i][T] = 100;
+        rows[i][RANK] = (uint16_t)(16 - i);
+        rows[i][M] = i < 16 ? margin : margin_17;
     }
-    size_t bytes = write_table(table, (const uint16_t(*)[4])rows, 17);
+    size_t bytes = write_table(table, (const uint16_t(*)[NUMBERS])rows, 17);
     fill(&s, 0x3c);
     before = s;
-    EXPECT(plan_is(heechstjer_plan_in(s.block, table, bytes), 5, 160, 3, 0));
-    EXPECT(plan_is(heechstjer_plan_in(s.block, table, 163), 5, 160, 3, 0)); /* before 1: its value is cut too */
+    EXPECT(plan_is(heechstjer_plan_in(s.block, table, bytes), 5, from, 3, 0));
+    EXPECT(plan_is(heechstjer_plan_in(s.block, table, from + 3), 5, from, 3, 0)); /* before 1: its value is cut too */
     EXPECT(same_block(&s, &before) && guards_stand(&s));
+}
+
+static void refusal_5_for_a_17th_row(void)
+{
+    row_17_is_refused(0, 0);
+    row_17_is_refused(0, 1);
+    row_17_is_refused(1, 0);
+    row_17_is_refused(1, 1);
 }
 
 static void refusal_10_for_the_third_row(void)
 {
-    static const uint16_t rows[3][4] = {{3, 6, 6, 0}, {2, 8, 8, 1}, {3, 12, 12, 2}};
+    static const uint16_t rows[3][NUMBERS] = {{3, 6, 6, 0}, {2, 8, 8, 1}, {3, 12, 12, 2}};
     uint8_t table[HEECHSTJER_MOST_TABLE_BYTES];
     station s, before;
     size_t bytes = write_table(table, rows, 3);
@@ -394,16 +461,17 @@ static void refusal_10_for_the_third_row(void)
 
 static void tables_of_0_1_and_16_rows_are_planned(void)
 {
-    static const uint16_t largest[1][4] = {{65535, 65535, 65535, 0}};
-    uint16_t rows[16][4];
+    static const uint16_t largest[1][NUMBERS] = {{65535, 65535, 65535, 0}};
+    uint16_t rows[16][NUMBERS];
     for (uint16_t i = 0; i < 16; i++) {
-        rows[i][0] = 1;
-        rows[i][1] = rows[i][2] = 16;
-        rows[i][3] = (uint16_t)(15 - i);
+        rows[i][C] = 1;
+        rows[i][D] = rows[i][T] = 16;
+        rows[i][RANK] = (uint16_t)(15 - i);
+        rows[i][M] = 0;
     }
     planned(empty_table, sizeof empty_table);
     planned_rows(largest, 1);
-    station s = planned_rows((const uint16_t(*)[4])rows, 16);
+    station s = planned_rows((const uint16_t(*)[NUMBERS])rows, 16);
     EXPECT(ticks(&s, 0xffff, 0, "0 U16 -")); /* row 16 has R 16, U 0; the others are promoted later */
     EXPECT(ticks(&s, 0, 0, "1 U15 H16 spent"));
 }
@@ -486,6 +554,18 @@ static void refusal_11_for_a_flipped_bit(void)
     }
 }
 
+/* Where the rows' numbers stand in a block (docs/block.md), two bytes each. */
+enum { C_AT = 16, U_AT = 112, M_AT = 320, M_BYTES = 32 };
+
+/* The length of table A in this block: its margins are none, or a bit was flipped in them. */
+static size_t length_of_table_a(const station *s)
+{
+    bool margin = false;
+    for (int i = 0; i < M_BYTES; i++)
+        margin = margin || s->block[M_AT + i] != 0;
+    return margin ? sizeof table_a + 2 : sizeof table_a;
+}
+
 /* Every bit in turn: the block is still an image, or tick, offer and table all say 11; refused, no byte changes. */
 static void every_flipped_bit_is_judged_once(void)
 {
@@ -504,12 +584,35 @@ static void every_flipped_bit_is_judged_once(void)
             EXPECT((tick.refusal == 11) == (offer.refusal == 11));
             heechstjer_table_answer table = heechstjer_table_in(damaged.block, out, sizeof out);
             EXPECT((tick.refusal == 11) == (table.refusal == 11));
-            EXPECT(table.size == (table.refusal == 0 ? sizeof table_a : 0));
+            EXPECT(table.size == (table.refusal == 0 ? length_of_table_a(&damaged) : 0));
             EXPECT(tick.refusal == 0 || (tick.refusal == 11 && same_block(&s, &damaged)));
             EXPECT(offer.refusal == 0 || (same_block(&t, &damaged) && offer.ticket == 0));
             refused += tick.refusal == 11;
         }
     EXPECT(refused > 2048);
+}
+
+/* U <= D - C - M: table A has U 4 in row 1, which leaves no margin, and U 5 in row 2, which leaves 2. */
+static void refusal_11_for_a_margin_too_large(void)
+{
+    static const struct { int row, u, m; bool image; } margins[] = {
+        {0, 4, 1, false}, {0, 3, 1, true}, {0, 0, 4, true}, {0, 0, 5, false},
+        {1, 5, 2, true}, {1, 5, 3, false}, {1, 0, 7, true}, {1, 0, 8, false},
+        {2, 0, 1, false}, {15, 0, 1, false},
+    };
+    for (size_t i = 0; i < sizeof margins / sizeof margins[0]; i++) {
+        station s = at_clock_2();
+        s.block[U_AT + 2 * margins[i].row] = (uint8_t)margins[i].u;
+        s.block[M_AT + 2 * margins[i].row] = (uint8_t)margins[i].m;
+        station damaged = s;
+        unsigned number = margins[i].image ? 0 : 11;
+        EXPECT(heechstjer_tick_in(s.block, 0, 0).refusal == number);
+        EXPECT((number == 0) == !same_block(&s, &damaged));
+        EXPECT(margins[i].image || (turns_down(&s, 1, 1, 11) && keeps_back(s.block, BLOCK, 0, 11)));
+    }
+    station high = at_clock_2();
+    high.block[M_AT + 3] = 1; /* M 256 in row 2 */
+    EXPECT(ticks(&high, 0, 0, "refused 11"));
 }
 
 /* ---- NULL, where there are no bytes ---- */
@@ -643,7 +746,7 @@ static void a_refused_call_was_not_made(void)
 
 static void the_five_choices_in_order(void)
 {
-    static const uint16_t rows[3][4] = {{1, 4, 20, 2}, {1, 4, 20, 0}, {1, 9, 20, 1}}; /* U 3, 2, 6 */
+    static const uint16_t rows[3][NUMBERS] = {{1, 4, 20, 2}, {1, 4, 20, 0}, {1, 9, 20, 1}}; /* U 3, 2, 6 */
     station s = planned_rows(rows, 3);
     EXPECT(ticks(&s, 0, 0, "0 I -"));
     EXPECT(takes(&s, 2, 9, 0));
@@ -664,7 +767,7 @@ static void the_five_choices_in_order(void)
 
 static void the_smallest_promoted_row_runs(void)
 {
-    static const uint16_t rows[2][4] = {{2, 4, 4, 1}, {2, 4, 4, 0}}; /* U 2 and 0 */
+    static const uint16_t rows[2][NUMBERS] = {{2, 4, 4, 1}, {2, 4, 4, 0}}; /* U 2 and 0 */
     station s = planned_rows(rows, 2);
     EXPECT(ticks(&s, 3, 0, "0 U2 -"));
     EXPECT(ticks(&s, 0, 0, "1 U2 -"));
@@ -674,6 +777,20 @@ static void the_smallest_promoted_row_runs(void)
     EXPECT(ticks(&s, 2, 0, "5 U2 -"));
     EXPECT(ticks(&s, 0, 0, "6 U1 -"));
     EXPECT(ticks(&s, 0, DONE, "7 U2 H1 done"));
+}
+
+/* Table A with margins, released at once with soft work wanting every tick: D - M is 5 and 7. */
+static void a_margin_promotes_earlier(void)
+{
+    station s = planned(table_a_with_margins, sizeof table_a_with_margins);
+    EXPECT(ticks(&s, 3, SOFT, "0 U2 -"));
+    EXPECT(ticks(&s, 0, SOFT, "1 U2 -"));
+    EXPECT(ticks(&s, 0, SOFT, "2 U2 -"));
+    EXPECT(ticks(&s, 0, SOFT, "3 U1 -"));
+    EXPECT(ticks(&s, 0, SOFT, "4 U1 -"));
+    EXPECT(ticks(&s, 0, SOFT, "5 U2 H1 spent"));
+    EXPECT(ticks(&s, 0, SOFT, "6 U2 -"));
+    EXPECT(ticks(&s, 0, SOFT, "7 S H2 spent"));
 }
 
 static void done_and_spent(void)
@@ -802,20 +919,39 @@ static void the_table_of_a_copy(void)
     EXPECT(ticks(&s, 0, 0, "3 L2 H1 spent"));
 }
 
-static void sixteen_rows_need_163_bytes(void)
+/* Sixteen rows, so many of them with a margin, come back in so many bytes and not in one less. */
+static void sixteen_rows_need(uint16_t margins, size_t want)
 {
     uint8_t table[HEECHSTJER_MOST_TABLE_BYTES];
-    uint16_t rows[16][4];
+    uint16_t rows[16][NUMBERS];
     for (uint16_t i = 0; i < 16; i++) {
-        rows[i][0] = (uint16_t)(1 + i);
-        rows[i][1] = (uint16_t)(0x1000 + i);
-        rows[i][2] = (uint16_t)(0xffff - i);
-        rows[i][3] = (uint16_t)(15 - i);
+        rows[i][C] = (uint16_t)(1 + i);
+        rows[i][D] = (uint16_t)(0x1000 + i);
+        rows[i][T] = (uint16_t)(0xffff - i);
+        rows[i][RANK] = (uint16_t)(15 - i);
+        rows[i][M] = (uint16_t)(i < margins ? 0x0102 + i : 0);
     }
-    size_t bytes = write_table(table, (const uint16_t(*)[4])rows, 16);
+    size_t bytes = write_table(table, (const uint16_t(*)[NUMBERS])rows, 16);
     station s = planned(table, bytes);
-    EXPECT(bytes == 163 && gives_back(&s, table, bytes));
-    EXPECT(keeps_back(s.block, BLOCK, 162, 19));
+    EXPECT(bytes == want && gives_back(&s, table, bytes));
+    EXPECT(keeps_back(s.block, BLOCK, want - 1, 19));
+}
+
+static void sixteen_rows_need_163_bytes(void) { sixteen_rows_need(0, 163); }
+static void sixteen_rows_with_margins_need_195_bytes(void) { sixteen_rows_need(16, HEECHSTJER_MOST_TABLE_BYTES); }
+
+/* Each row in its own form: the longer one only where there is a margin. */
+static void rows_of_both_lengths_come_back(void)
+{
+    static const uint8_t both[] = {ROW(2, 6, 8, 0), MARGIN_ROW(5, 12, 12, 1, 5), END};
+    static const uint8_t turned[] = {MARGIN_ROW(2, 6, 8, 0, 4), ROW(5, 12, 12, 1), END};
+    station a = planned(table_a_with_margins, sizeof table_a_with_margins);
+    station b = planned(both, sizeof both), c = planned(turned, sizeof turned);
+    EXPECT(gives_back(&a, table_a_with_margins, sizeof table_a_with_margins));
+    EXPECT(gives_back(&b, both, sizeof both) && keeps_back(b.block, BLOCK, sizeof both - 1, 19));
+    EXPECT(gives_back(&c, turned, sizeof turned) && keeps_back(c.block, BLOCK, sizeof turned - 1, 19));
+    EXPECT(ticks(&a, 3, 0, "0 U2 -") && gives_back(&a, table_a_with_margins, sizeof table_a_with_margins));
+    sixteen_rows_need(1, 165);
 }
 
 static void refusal_19_up_to_one_byte_short(void)
@@ -835,6 +971,43 @@ static void refusal_10_for_a_table_that_nobody_planned(void)
     EXPECT(keeps_back(s.block, BLOCK, HEECHSTJER_MOST_TABLE_BYTES, 10));
     EXPECT(keeps_back(s.block, BLOCK, 0, 10)); /* before 19 */
     EXPECT(ticks(&s, 0, 0, "0 I -"));
+}
+
+/* Table A with U 0 and a margin written over those of row 2 (docs/block.md), R 7, D 12: up to 7 it is an image, but from
+ * 6 on R and M together pass D. */
+static void refusal_22_for_a_margin_that_nobody_planned(void)
+{
+    static const uint8_t fits[] = {ROW(2, 6, 8, 0), MARGIN_ROW(5, 12, 12, 1, 5), END};
+    station s = planned(table_a, sizeof table_a);
+    s.block[U_AT + 2] = 0;
+    s.block[M_AT + 2] = 5;
+    EXPECT(gives_back(&s, fits, sizeof fits));
+    for (uint8_t m = 6; m <= 7; m++) {
+        s.block[M_AT + 2] = m;
+        EXPECT(keeps_back(s.block, BLOCK, HEECHSTJER_MOST_TABLE_BYTES, 22));
+        EXPECT(keeps_back(s.block, BLOCK, 0, 22)); /* before 19 */
+    }
+    EXPECT(ticks(&s, 0, 0, "0 I -"));
+    s.block[M_AT + 2] = 8;
+    EXPECT(keeps_back(s.block, BLOCK, 0, 11)); /* C and M together pass D */
+}
+
+/* Two rows below (2,6,8): one with a margin that R leaves no room for, the other with C 12 and so no bound. Whichever
+ * comes first is the refusal. */
+static void refusals_10_and_22_row_by_row(void)
+{
+    static const uint16_t rows[3][NUMBERS] = {{2, 6, 8, 0}, {1, 12, 12, 1}, {1, 12, 12, 2}};
+    station s = planned_rows(rows, 3), t = s;
+    s.block[M_AT + 2] = 10; /* R 3, D 12 */
+    s.block[U_AT + 2] = 0;
+    s.block[C_AT + 4] = 12;
+    s.block[U_AT + 4] = 0;
+    EXPECT(keeps_back(s.block, BLOCK, 0, 22));
+    t.block[C_AT + 2] = 12;
+    t.block[U_AT + 2] = 0;
+    t.block[M_AT + 4] = 11;
+    t.block[U_AT + 4] = 0;
+    EXPECT(keeps_back(t.block, BLOCK, 0, 10));
 }
 
 /* ---- The block ---- */
@@ -877,15 +1050,14 @@ static unsigned any_below(unsigned bound)
     return (seed >> 8) % bound;
 }
 
-/* Random calls on table A. Every released row is named C times within D ticks or told done, and never more; every
- * accepted upload as often as its budget within its deadline; the clock counts accepted ticks, tickets count
- * acceptances; done is said only when told. */
-static void hard_jobs_and_uploads_are_in_time(void)
+/* Random calls on table A, whose rows have these D - M. Every released row is named C times within so many ticks or
+ * told done, and never more; every accepted upload as often as its budget within its deadline; the clock counts
+ * accepted ticks, tickets count acceptances; done is said only when told. */
+static void all_are_in_time(station s, const unsigned in[2])
 {
-    static const unsigned c[2] = {2, 5}, d[2] = {6, 12};
+    static const unsigned c[2] = {2, 5};
     enum { CALLS = 20000, UPLOADS = 32 };
     struct { bool live; unsigned due, left; } job[2] = {{false, 0, 0}, {false, 0, 0}}, upload[UPLOADS];
-    station s = planned(table_a, sizeof table_a);
     unsigned now = 0, accepted = 0, offers_refused = 0, ticks_refused = 0;
     memset(upload, 0, sizeof upload);
     seed = 1;
@@ -928,7 +1100,7 @@ static void hard_jobs_and_uploads_are_in_time(void)
                 EXPECT(!job[row].live);
                 job[row].live = true;
                 job[row].left = c[row];
-                job[row].due = now + d[row];
+                job[row].due = now + in[row];
             }
         if (a.runner == HEECHSTJER_RUNNER_HARD) {
             EXPECT(job[a.runner_row - 1].live && job[a.runner_row - 1].left > 0);
@@ -947,13 +1119,21 @@ static void hard_jobs_and_uploads_are_in_time(void)
     EXPECT(guards_stand(&s));
 }
 
+static void hard_jobs_and_uploads_are_in_time(void)
+{
+    static const unsigned d[2] = {6, 12}, less_margin[2] = {5, 7};
+    all_are_in_time(planned(table_a, sizeof table_a), d);
+    all_are_in_time(planned(table_a_with_margins, sizeof table_a_with_margins), less_margin);
+}
+
 /* ---- The run ---- */
 
 static const struct { const char *name; void (*run)(void); } tests[] = {
-    {"every refusal has document 01's number", refusals_have_their_numbers},
+    {"every refusal has the documents' number", refusals_have_their_numbers},
     {"the version is that of its three numbers", the_version_is_that_of_its_numbers},
     {"a row's bit is one of 16", a_row_bit_is_one_bit_of_16},
     {"rows written in C are the bytes of a file", rows_in_c_are_the_bytes_of_a_file},
+    {"rows with margins written in C are, too", rows_with_margins_in_c_are_the_bytes_of_a_file},
     {"tables of 0, 1 and 16 rows are planned", tables_of_0_1_and_16_rows_are_planned},
     {"planning writes all 512 bytes, by the table alone", planning_writes_all_of_the_block},
     {"the table may be thrown away once planned", the_table_may_be_thrown_away},
@@ -963,6 +1143,7 @@ static const struct { const char *name; void (*run)(void); } tests[] = {
     {"refusal 11: a block of 511 bytes", refusal_11_for_511_bytes},
     {"refusal 11: a block of 513 bytes", refusal_11_for_513_bytes},
     {"refusal 11: a flipped bit in the reserved part", refusal_11_for_a_flipped_bit},
+    {"refusal 11: C and M and U above D, or a margin past the table", refusal_11_for_a_margin_too_large},
     {"every flipped bit is judged alike by tick, offer and table", every_flipped_bit_is_judged_once},
     {"NULL is an empty table: refusal 1", null_is_an_empty_table},
     {"NULL is a block of 0 bytes: refusal 11", null_is_a_block_of_0_bytes},
@@ -976,6 +1157,7 @@ static const struct { const char *name; void (*run)(void); } tests[] = {
     {"a refused call is as if not made", a_refused_call_was_not_made},
     {"the five choices, in order", the_five_choices_in_order},
     {"the smallest promoted row runs", the_smallest_promoted_row_runs},
+    {"a margin promotes earlier", a_margin_promotes_earlier},
     {"done and spent", done_and_spent},
     {"an upload is complete only when closed as done", complete_only_when_closed_as_done},
     {"refusal 18: document 01's offers at clock 2", the_offers_at_clock_2},
@@ -987,8 +1169,12 @@ static const struct { const char *name; void (*run)(void); } tests[] = {
     {"the table comes back byte for byte, whatever was called", the_table_comes_back},
     {"the table of a copy is read while the block ticks on", the_table_of_a_copy},
     {"sixteen rows come back in 163 bytes", sixteen_rows_need_163_bytes},
+    {"sixteen rows with margins come back in 195 bytes", sixteen_rows_with_margins_need_195_bytes},
+    {"rows of both lengths come back, each in its own", rows_of_both_lengths_come_back},
     {"refusal 19: an output up to one byte short", refusal_19_up_to_one_byte_short},
     {"refusal 10: the table of a block that nobody planned", refusal_10_for_a_table_that_nobody_planned},
+    {"refusal 22: a margin that nobody planned", refusal_22_for_a_margin_that_nobody_planned},
+    {"refusals 10 and 22: row by row", refusals_10_and_22_row_by_row},
     {"a copy of a block is the same state", a_copy_is_the_same_state},
     {"two blocks know nothing of each other", two_blocks_know_nothing_of_each_other},
     {"hard jobs and uploads are in time, counted from the answers", hard_jobs_and_uploads_are_in_time},
