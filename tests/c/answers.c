@@ -938,7 +938,7 @@ static void sixteen_rows_need(uint16_t margins, size_t want)
 }
 
 static void sixteen_rows_need_163_bytes(void) { sixteen_rows_need(0, 163); }
-static void sixteen_rows_with_margins_need_195_bytes(void) { sixteen_rows_need(16, HEECHSTJER_MOST_TABLE_BYTES); }
+static void sixteen_rows_with_margins_need_195_bytes(void) { sixteen_rows_need(16, 195); }
 
 /* Each row in its own form: the longer one only where there is a margin. */
 static void rows_of_both_lengths_come_back(void)

@@ -112,8 +112,9 @@ impl Judge {
             }
             // Two bytes of this one exchanged.
             4 => block.swap(below(random, RESERVED_AT), below(random, RESERVED_AT)),
-            // Another margin, or one of a row that is not there.
+            // Another margin.
             5 => block = with_another_margin(random, image),
+            // A byte of the margins, also of rows that are not there.
             6 => block[M_AT + below(random, RESERVED_AT - M_AT)] = random.below(256) as u8,
             // Nothing of it left.
             _ => block.iter_mut().for_each(|byte| *byte = random.below(256) as u8),
