@@ -8,7 +8,7 @@ use native.Mathlib.Omega.{arith}
 use lib.Dec.{eqb}
 use Rattle.rules.specs.Calls.{answered, refused}
 use Rattle.rules.specs.Lists.{find, firstOf, orElse, unless}
-use Rattle.rules.specs.Refusals.{B-zero, C-over-D, C-zero, D-over-T, Refusal, after-end, atRow, bad-rank, cut, d-under-B, none-ran, not-image, not-ready, number, passes-D, queue-full, refusal, room-short, row-17, small-output, unknown-flag, unknown-row, unknown-tag, wrong-length}
+use Rattle.rules.specs.Refusals.{B-zero, C-over-D, C-zero, D-over-T, M-zero, R-M-over-D, Refusal, after-end, atRow, bad-rank, cut, d-under-B, none-ran, not-image, not-ready, number, passes-D, queue-full, refusal, room-short, row-17, small-output, unknown-flag, unknown-row, unknown-tag, wrong-length}
 use Rattle.rules.specs.Station.{Station}
 use Rattle.rules.specs.Tick.{Answer, Closing, Runner, Ticked, close, done, firm, firm-job, hard, hard-job, idle, lower, no-tick, noneRan, nothing, soft, spent, stepped, tick, ticked, unknown, unready, upper}
 use Rattle.state.specs.declared.State.{State}
@@ -43,6 +43,8 @@ named-back queue-full = (refl, refl)
 named-back room-short = (refl, refl)
 named-back small-output = (refl, refl)
 named-back unknown-flag = (refl, refl)
+named-back M-zero = (refl, refl)
+named-back R-M-over-D = (refl, refl)
 
 row-back : (k : ℕ) → k + 1 - 1 ≡ k
 row-back k = omega arith

@@ -54,6 +54,7 @@ stays-imaged rows s s′ I S =
         t-long = L .t-long;
         u-long = L .u-long;
         rank-long = L .rank-long;
+        m-long = L .m-long;
         run-long = S .kept .jobs .runs;
         stamp-long = S .kept .times .stamps;
         budget-long = S .kept .queue .budgets;

@@ -91,7 +91,7 @@ offerDecoded x b B d = cond (x .ok) (madeOn (offerMade (x .rows) (x .state) B d)
 unfoldable pub offerBlock : List ℕ → ℕ → ℕ → Out OfferAnswer
 offerBlock b B d = offerDecoded (decodedOf b) b B d
 
--- the table read back: 11, then 5 to 10, then 19
+-- the table read back: 11, then 5 to 10 and 22, then 19
 
 -- a table that is written leaves its file at the front of the output, a refused one the output as it was
 abbrev pub writingOn : Writing → List ℕ → Out TableAnswer

@@ -7,11 +7,11 @@ use mathlib.Core.Logic.{_⊎_}
 use mathlib.Core.Option.{some}
 use mathlib.Core.Path.{_≡_}
 use lib.Dec.{eqb}
-use lib.ListN.{drop, getD, getElem?, length}
-use Rattle.rules.specs.Bound.{PlannedRow, plan, unplanned}
+use lib.ListN.{drop, getD, getElem?, length, take}
+use Rattle.rules.specs.Bound.{PlannedRow, unplanned}
 use Rattle.rules.specs.Calls.{AllShort, Call, Reply, Reported, Short, acceptances, answered, count, doneFlag, namesRow, namesTicket, offer-call, refused, releases, replies, returns, tick-call, ticks, took}
-use Rattle.rules.specs.File.{read, read-as, scan, unread, whole}
-use Rattle.rules.specs.Refusals.{B-zero, C-over-D, C-zero, D-over-T, Refusal, Refused, after-end, atRow, bad-rank, cut, d-under-B, none-ran, not-image, not-ready, number, passes-D, queue-full, refusal, room-short, row-17, small-output, unknown-flag, unknown-row, unknown-tag, wrong-length}
+use Rattle.rules.specs.File.{Field, fieldBytes, planFields, read, read-as, scan, unread, whole}
+use Rattle.rules.specs.Refusals.{B-zero, C-over-D, C-zero, D-over-T, M-zero, R-M-over-D, Refusal, Refused, after-end, atRow, bad-rank, cut, d-under-B, none-ran, not-image, not-ready, number, passes-D, queue-full, refusal, room-short, row-17, small-output, unknown-flag, unknown-row, unknown-tag, wrong-length}
 use Rattle.rules.specs.Rows.{Row, deadline}
 use Rattle.rules.specs.Image.{isImage}
 use Rattle.rules.specs.Station.{Station, freshStation}
@@ -27,11 +27,12 @@ use Rattle.board.specs.Blocks.{giving, offerBlock, planBlock, tableBlock
 
 -- THE ANSWERS, read as document 01's replies
 
--- the refusals 1 to 20
+-- the refusals 1 to 22
 abbrev pub refusals : List Refusal
 refusals =
     cut ∷ unknown-tag ∷ wrong-length ∷ after-end ∷ row-17 ∷ C-zero ∷ C-over-D ∷ D-over-T ∷ bad-rank ∷ passes-D
-    ∷ not-image ∷ unknown-row ∷ none-ran ∷ not-ready ∷ B-zero ∷ d-under-B ∷ queue-full ∷ room-short ∷ small-output ∷ unknown-flag ∷ []
+    ∷ not-image ∷ unknown-row ∷ none-ran ∷ not-ready ∷ B-zero ∷ d-under-B ∷ queue-full ∷ room-short ∷ small-output ∷ unknown-flag
+    ∷ M-zero ∷ R-M-over-D ∷ []
 
 -- the refusal of a number
 abbrev pub named : ℕ → Refusal
@@ -98,23 +99,25 @@ abbrev pub AnyBlock : Type 0
 AnyBlock = (b : List ℕ) → Bytes b → decodedOf b .ok ≡ true
     → (st : Station) × (isImage st ≡ true) × ((cs : List Call) → AllShort cs → blockReplies b cs ≡ replies st cs)
 
--- accepted, or refused with 10, 11 or 19
+-- accepted, or refused with 10, 22, 11 or 19
 abbrev pub TableNumber : ℕ → Type 0
-TableNumber refusal = (refusal ≡ 0) ⊎ ((refusal ≡ 10) ⊎ ((refusal ≡ 11) ⊎ (refusal ≡ 19)))
+TableNumber refusal = (refusal ≡ 0) ⊎ ((refusal ≡ 10) ⊎ ((refusal ≡ 22) ⊎ ((refusal ≡ 11) ⊎ (refusal ≡ 19))))
 
 -- THE TABLE READ BACK, of any bytes: the table of every image passes 5 to 9
 abbrev pub TableNumbers : Type 0
 TableNumbers = (b out : List ℕ) → Bytes b → TableNumber (tableBlock b out .answer .refusal)
 
--- PLANNING, where 6 to 10 refuse a row: the number, the row, and the part of the file that the rules show
+-- PLANNING, where 6 to 10, 21 or 22 refuse a row: the number, the row, and where the bytes of its field stand
 abbrev pub RowNamed : Type 0
-RowNamed = (b file : List ℕ) → length b ≡ block-bytes → (rs : List Row) → scan 16 0 file ≡ whole rs → (x : Refused) → plan rs ≡ unplanned x
-    → (from size : ℕ) → read file ≡ unread (x .why) from size
-    → planBlock b file .answer ≡ record { from = from; size = size; refusal = number (x .why); row = rowNumber (x .row) }
+RowNamed = (b file : List ℕ) → length b ≡ block-bytes → Bytes file → (fs : List Field) → scan 16 0 file ≡ whole fs → (x : Refused) → planFields fs ≡ unplanned x
+    → (f : Field) × (getElem? fs (x .row) ≡ some f) × (from : ℕ) × (size : ℕ)
+    × (read file ≡ unread (x .why) from size)
+    × (planBlock b file .answer ≡ record { from = from; size = size; refusal = number (x .why); row = rowNumber (x .row) })
+    × (take size (drop from file) ≡ fieldBytes f)
 
 -- DEMAND 3, a hard job. A tick released the row r at position k and answered x; b is the block after it. Whatever calls follow:
 pub record HardOnBlock (k : ℕ) (r : Row) (b : List ℕ) (x : Answer) : Type 0 where
-  -- when D ticks have been stepped from the release on, C of their answers have named the row, or a later one reported the job done
+  -- when D − M ticks have been stepped from the release on, C of their answers have named the row, or a later one reported the job done
   pub in-time : (later : List Call) → AllShort later → deadline r ≤ ticks (answered x ∷ blockReplies b later)
       → (r .C ≤ count (namesRow k) (answered x ∷ blockReplies b later)) ⊎ Reported (hard-job k done) (blockReplies b later)
   -- up to the next release of the row, no more than C name it
