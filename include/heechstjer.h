@@ -2,9 +2,9 @@
  *
  * A kernel plans a hard table into a block of 512 bytes, then asks at every tick who runs, and between
  * ticks offers uploads; it can read the table back. Four functions, each with one answer, a struct by value.
- * "Document 01" is the rules paper; C, D, T, U, n, rank, B and d are its letters: ticks of work, deadline,
- * period, promotion time, number of rows, place in the lower band, an upload's budget and its deadline.
- * Rows count from 1.
+ * "Document 01" is the rules paper, "document 02" what was asked for after it; C, D, T, M, R, U, n, rank, B and d
+ * are their letters: ticks of work, deadline, period, margin, response bound, promotion time, number of rows, place
+ * in the lower band, an upload's budget and its deadline. Rows count from 1.
  *
  * Of every function below:
  *
@@ -48,9 +48,9 @@ extern "C" {
 #endif
 
 /* The version of header and library, which `pkg-config --modversion heechstjer` gives too. */
-#define HEECHSTJER_VERSION "0.1.0"
+#define HEECHSTJER_VERSION "0.2.0"
 #define HEECHSTJER_VERSION_MAJOR 0
-#define HEECHSTJER_VERSION_MINOR 1
+#define HEECHSTJER_VERSION_MINOR 2
 #define HEECHSTJER_VERSION_PATCH 0
 
 /* Sizes. */
@@ -58,30 +58,37 @@ extern "C" {
 #define HEECHSTJER_MOST_ROWS 16    /* a table has 0 to 16 rows */
 #define HEECHSTJER_MOST_UPLOADS 8  /* firm jobs queued at one time */
 #define HEECHSTJER_ROW_BYTES 10    /* a row in a table file: 01 00 07, C, D, T (2 bytes each), rank (1), big-endian */
+#define HEECHSTJER_MARGIN_ROW_BYTES 12 /* a row with a margin: 02 00 09, C, D, T, rank, M (2 bytes), big-endian */
 #define HEECHSTJER_END_BYTES 3     /* the end field of a table file: 0f 00 00, required and last */
-#define HEECHSTJER_MOST_TABLE_BYTES 163 /* the longest table that is accepted: 16 rows and the end field */
+#define HEECHSTJER_MOST_TABLE_BYTES 195 /* the longest table that is accepted: 16 rows with margins and the end field */
 #define HEECHSTJER_STACK_BYTES 2048 /* the stack that a call takes, at most */
 
 /* A table written in C, its rows in order and then the end:
- *     static const uint8_t table[] = {HEECHSTJER_ROW(2, 6, 8, 0), HEECHSTJER_ROW(5, 12, 12, 1), HEECHSTJER_END};
- * They are the bytes of the fields. C, D, T and rank are constants of an integer type; one that is below 0 or does not
- * fit its field (65,535, and 255 for rank) does not compile.
+ *     static const uint8_t table[] = {
+ *         HEECHSTJER_ROW(2, 6, 8, 0), HEECHSTJER_MARGIN_ROW(5, 12, 12, 1, 3), HEECHSTJER_END};
+ * They are the bytes of the fields. C, D, T, rank and M are constants of an integer type; one that is below 0 or does
+ * not fit its field (65,535, and 255 for rank) does not compile. M is slack before D, for a driver that overruns
+ * slightly; a row without it is HEECHSTJER_ROW, for M = 0 is refused (21).
  */
-#define HEECHSTJER_ROW(C, D, T, rank) \
-    0x01, 0x00, 0x07, HEECHSTJER_TWO_BYTES(C), HEECHSTJER_TWO_BYTES(D), HEECHSTJER_TWO_BYTES(T), \
-    HEECHSTJER_FITS(rank, 0xff) * (rank)
+#define HEECHSTJER_ROW(C, D, T, rank) 0x01, 0x00, 0x07, HEECHSTJER_NUMBERS(C, D, T, rank)
+#define HEECHSTJER_MARGIN_ROW(C, D, T, rank, M) \
+    0x02, 0x00, 0x09, HEECHSTJER_NUMBERS(C, D, T, rank), HEECHSTJER_TWO_BYTES(M)
 #define HEECHSTJER_END 0x0f, 0x00, 0x00
 
-/* Of HEECHSTJER_ROW: a number big-endian; and 1 for a number within the ones, else an array of -1 bytes, an error. */
+/* Of the two: the numbers that both have; a number big-endian; and 1 for a number within the ones, else an array of -1
+ * bytes, an error.
+ */
+#define HEECHSTJER_NUMBERS(C, D, T, rank) \
+    HEECHSTJER_TWO_BYTES(C), HEECHSTJER_TWO_BYTES(D), HEECHSTJER_TWO_BYTES(T), HEECHSTJER_FITS(rank, 0xff) * (rank)
 #define HEECHSTJER_TWO_BYTES(x) HEECHSTJER_FITS(x, 0xffff) * ((x) >> 8), (x) & 0xff
 #define HEECHSTJER_FITS(x, ones) sizeof(char[(x) == ((x) & (ones)) ? 1 : -1])
 
-/* Refusals, by document 01's numbers. */
+/* Refusals, by the documents' numbers. */
 enum heechstjer_refusal {
     HEECHSTJER_ACCEPTED = 0,
     HEECHSTJER_REFUSED_CUT = 1,           /* table: fewer than 3 bytes where a field must start, or its value is cut */
-    HEECHSTJER_REFUSED_UNKNOWN_TAG = 2,   /* table: a tag other than 01 and 0f */
-    HEECHSTJER_REFUSED_WRONG_LENGTH = 3,  /* table: a length other than 7 for tag 01, 0 for tag 0f */
+    HEECHSTJER_REFUSED_UNKNOWN_TAG = 2,   /* table: a tag other than 01, 02 and 0f */
+    HEECHSTJER_REFUSED_WRONG_LENGTH = 3,  /* table: a length other than 7 for tag 01, 9 for 02, 0 for 0f */
     HEECHSTJER_REFUSED_AFTER_END = 4,     /* table: bytes after the end field */
     HEECHSTJER_REFUSED_ROW_17 = 5,        /* table: a 17th row */
     HEECHSTJER_REFUSED_C_ZERO = 6,        /* row: C = 0 */
@@ -98,7 +105,9 @@ enum heechstjer_refusal {
     HEECHSTJER_REFUSED_QUEUE_FULL = 17,   /* offer: 8 firm jobs are queued */
     HEECHSTJER_REFUSED_ROOM_SHORT = 18,   /* offer: the hard rows and the queue leave fewer than B of d ticks */
     HEECHSTJER_REFUSED_SMALL_OUTPUT = 19, /* table read back: the output is too small */
-    HEECHSTJER_REFUSED_UNKNOWN_FLAG = 20  /* tick: a flag bit other than done and soft */
+    HEECHSTJER_REFUSED_UNKNOWN_FLAG = 20, /* tick: a flag bit other than done and soft */
+    HEECHSTJER_REFUSED_M_ZERO = 21,       /* row: tag 02 with M = 0 */
+    HEECHSTJER_REFUSED_R_M_OVER_D = 22    /* row: R + M > D, the bound leaves no room for the margin */
 };
 
 /* The flags of a tick, one number. */
@@ -139,10 +148,10 @@ enum heechstjer_closing {
 
 /* The answer of planning. */
 typedef struct heechstjer_plan_answer {
-    size_t from;     /* refusals 1 to 10: where the offending bytes start in the table, else 0 */
-    size_t size;     /* refusals 1 to 10: how many they are, else 0 */
-    uint8_t refusal; /* 0, or 1 to 11 */
-    uint8_t row;     /* refusals 6 to 10: the row, 1 to 16, else 0 */
+    size_t from;     /* refusals 1 to 10, 21, 22: where the offending bytes start in the table, else 0 */
+    size_t size;     /* refusals 1 to 10, 21, 22: how many they are, else 0 */
+    uint8_t refusal; /* 0, 1 to 11, 21 or 22 */
+    uint8_t row;     /* refusals 6 to 10, 21, 22: the row, 1 to 16, else 0 */
 } heechstjer_plan_answer;
 
 /* The answer of a tick. */
@@ -169,7 +178,7 @@ typedef struct heechstjer_offer_answer {
 /* The answer of reading the table back. */
 typedef struct heechstjer_table_answer {
     size_t size;     /* accepted: how many bytes were written; 0 if refused */
-    uint8_t refusal; /* 0, 10, 11 or 19 */
+    uint8_t refusal; /* 0, 10, 11, 19 or 22 */
 } heechstjer_table_answer;
 
 /* Plans the table of a file into a block, and makes it a fresh state.
@@ -184,8 +193,9 @@ typedef struct heechstjer_table_answer {
  *            value cut (1). from is the field's start. size is 3 for 2, 3 and 5; for 1 it reaches to the
  *            end of the table and may be 0. A table of 0 bytes is refused with 1; that of 0 rows is 0f 00 00.
  *   4        bytes after the end field: from is the first of them, size is all of them.
- *   6 7 8 9  in each row in turn. row is the row, from its first byte, size 10.
- *   10       then again in each row in turn. row, from and size as for 6 to 9.
+ *   6 7 8 9  in each row in turn, then 21 in that row. row is the row, from the start of its field, size all of it:
+ *            10, or 12 for tag 02.
+ *   10 22    then again in each row in turn, 10 before 22. row, from and size as for 6 to 9.
  * The shown bytes lie in the table: from + size <= table_bytes. They are table[from] and on; no copy is made.
  */
 heechstjer_plan_answer heechstjer_plan(uint8_t *block, size_t block_bytes, const uint8_t *table, size_t table_bytes);
@@ -202,8 +212,9 @@ heechstjer_plan_answer heechstjer_plan(uint8_t *block, size_t block_bytes, const
  *            if its flag is set; the unpromoted job of the smallest rank; idle. A job is promoted from U
  *            ticks after its release on, that tick included. runner, with runner_row and band or ticket, says who.
  *   run      the runner has this tick; the clock advances by one.
- * The block is written back. A row that is released and not reported done is named C times in the D ticks from its
- * release on, whatever else is called, and never more than C times from one release to the next.
+ * The block is written back. A row that is released and not reported done is named C times in the D - M ticks from
+ * its release on, whatever else is called, and never more than C times from one release to the next. The M ticks that
+ * are left to D are the slack of a driver that overruns slightly.
  *
  * Checks, in this order:
  *   20  a flag bit other than done and soft.
@@ -240,14 +251,15 @@ heechstjer_offer_answer heechstjer_offer(uint8_t *block, size_t block_bytes, uin
 
 /* Reads the table of a block back: writes it as its file to the front of out. The block is not written.
  *
- * Accepted: refusal is 0, and the first size bytes of out are the table's file: 10 for each row, 3 for the end
- * field. The bytes of out after them stay. Of a block that only these functions have written since it was
- * planned, it is the file that was planned, byte for byte, whatever has been called since.
+ * Accepted: refusal is 0, and the first size bytes of out are the table's file: 10 for each row, 12 where it has a
+ * margin, 3 for the end field. The bytes of out after them stay. Of a block that only these functions have written
+ * since it was planned, it is the file that was planned, byte for byte, whatever has been called since.
  *
  * Checks, in this order:
  *   11  block_bytes is not 512, or the block's bytes are not the image of a state.
- *   10  the iteration of a row passes D. Tick and offer don't look at this, so it may be met with a block that
- *       something else has written. Document 01's writer asks 5 to 9 before it, and every image passes them.
+ *   10  in each row in turn: the iteration passes D (10), then R + M > D (22). Tick and offer don't look at
+ *   22  this, so it may be met with a block that something else has written. Document 01's writer asks 5 to 9
+ *       before it, and every image passes them.
  *   19  out_bytes is below the file's length. HEECHSTJER_MOST_TABLE_BYTES is always enough.
  * Refused: size is 0.
  */

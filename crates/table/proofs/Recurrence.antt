@@ -5,6 +5,7 @@ use mathlib.Core.List.{List}
 use native.Mathlib.Nat.{mul-le-mul, mul-le-mul-right, div-lt-iff-lt-mul, add-le-add, le-refl}
 use native.Mathlib.Numerals.{add-one}
 use native.Mathlib.Omega.{arith}
+use lib.ListN.{getD}
 use borrow.Author.Tests.{eq-eqb, ne-eqb, lt-ltb, le-ltb}
 use Rattle.rules.specs.Rows.{Row}
 use Rattle.rules.specs.Bound.{ceil, most, f, Bound, bound, none-to-D, iterate, response}
@@ -18,9 +19,18 @@ term-le w T C hw ht hc =
     let h : ceil w T < 65536 = div-lt-iff-lt-mul ht .1 (omega arith) in
     mul-le-mul {n₂ = 65535} {m₂ = 65535} (omega arith) (omega arith)
 
+-- what the first j rows ask at most of w ticks, by the columns of C and T
+abbrev pub asked : (c t : List ℕ) (w j : ℕ) → ℕ
+asked c t w zero = 0
+asked c t w (suc j) = ceil w (getD t j 0) * getD c j 0 + asked c t w j
+
 -- one row more, as the code counts
-pub demand-next : (tb : Table) (j w : ℕ) → demandOf (aboveOf tb (j + 1)) w ≡ most (rowAt tb j) w + demandOf (aboveOf tb j) w
-demand-next tb j w = ap (λ (k : ℕ). demandOf (aboveOf tb k) w) (add-one j)
+pub asked-next : (c t : List ℕ) (w j : ℕ) → asked c t w (j + 1) ≡ ceil w (getD t j 0) * getD c j 0 + asked c t w j
+asked-next c t w j = ap (asked c t w) (add-one j)
+
+pub asked-above : (tb : Table) (w i : ℕ) → asked (tb .c) (tb .t) w i ≡ demandOf (aboveOf tb i) w
+asked-above tb w zero = refl
+asked-above tb w (suc i) = ap (λ (k : ℕ). most (rowAt tb i) w + k) (asked-above tb w i)
 
 pub demand-mono : (tb : Table) (i w v : ℕ) → w ≤ v → Sound tb i → demandOf (aboveOf tb i) w ≤ demandOf (aboveOf tb i) v
 demand-mono tb zero w v h ok = le-refl 0

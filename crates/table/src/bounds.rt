@@ -103,12 +103,13 @@ fn demand(tb: Table, i: usize, w: u64) -> u64
     requires { ⌜ (i ≤ 16) × (w < 65536) × Sound tb i ⌝ }
     ensures { λ r. ⌜ (r ≡ demandOf (aboveOf tb i) w) × (r ≤ i * (65535 * 65535)) ⌝ }
 {
+    let c = tb.c;
+    let t = tb.t;
     let mut sum: u64 = 0;
     let mut j: usize = 0;
     while j < i {
-        let t = wide(tb.t[j]);
-        let c = wide(tb.c[j]);
-        sum = (w + (t - 1)) / t * c + sum;
+        let period = wide(t[j]);
+        sum = (w + (period - 1)) / period * wide(c[j]) + sum;
         j += 1;
     }
     sum
