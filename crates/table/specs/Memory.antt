@@ -78,9 +78,13 @@ Sound tb n = (i : ℕ) → i < n → RowOk (rowAt tb i)
 abbrev pub rowSize : ℕ → ℕ
 rowSize M = cond (eqb M 0) 10 12
 
--- what the two forms of a row's field have in common, by its tag and length: all but the margin
-abbrev pub frontBytes : (tag bytes C D T rank : ℕ) → List ℕ
-frontBytes tag bytes C D T rank = (tag ∷ two bytes) ++ (two C ++ (two D ++ (two T ++ (rank ∷ []))))
+-- the header of a field
+abbrev pub headerBytes : (tag bytes : ℕ) → List ℕ
+headerBytes tag bytes = tag ∷ two bytes
+
+-- the numbers that both forms of a row's field have
+abbrev pub numbersBytes : (C D T rank : ℕ) → List ℕ
+numbersBytes C D T rank = two C ++ (two D ++ (two T ++ (rank ∷ [])))
 
 -- the bytes of rows, with no end field
 abbrev pub rowsBytes : List Row → List ℕ

@@ -1,4 +1,6 @@
-// What a table file looks like, to its reader and its writer: a row's field, without a margin and with one, and the end field.
+// What a table file looks like, to its reader and its writer: a field's header; a row's field, without a margin and with one; the end field.
+pub const HEADER_BYTES: usize = 3;
+
 pub const ROW_TAG: u8 = 0x01;
 
 pub const ROW_LENGTH: u16 = 7;

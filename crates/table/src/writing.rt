@@ -3,12 +3,11 @@ use crate::Table;
 use crate::Written;
 use crate::form;
 ghost use mathlib.Core.Path.{_≡_};
-ghost use mathlib.Core.List.{[]};
 ghost use Prim.Native.Nat.{_+_, _≤_};
 ghost use lib.ListN.{length};
 ghost use lib.Seq.{sets};
 ghost use Rattle.rules.specs.File.{rowBytes, fileBytes, put};
-ghost use Rattle.table.specs.Memory.{frontBytes, rowSize, rowsBytes, rowsOf};
+ghost use Rattle.table.specs.Memory.{headerBytes, numbersBytes, rowSize, rowsBytes, rowsOf};
 ghost use Rattle.table.specs.Answers.{writtenOf, outputAfter};
 
 // The whole file, where it fits: 19 where it does not.
@@ -22,7 +21,7 @@ pub fn put_table(tb: Table, out: &mut [u8]) -> Written
         return Written::Refused(19);
     }
     let end = put_rows(tb, out);
-    put_end(out, end);
+    put_header(out, end, form::END_TAG, form::END_LENGTH);
     Written::Length(size)
 }
 
@@ -73,40 +72,31 @@ fn put_row(out: &mut [u8], at: usize, c: u16, d: u16, t: u16, rank: u8, m: u16)
     ensures { λ _. ⌜ now (out .exit) ≡ sets (now (out .entry)) at (rowBytes (record { C = c; D = d; T = t; rank = rank; M = m })) ⌝ }
 {
     if m == 0 {
-        put_front(out, at, form::ROW_TAG, form::ROW_LENGTH, c, d, t, rank);
+        put_header(out, at, form::ROW_TAG, form::ROW_LENGTH);
+        put_numbers(out, at + form::HEADER_BYTES, c, d, t, rank);
     } else {
-        put_front(
-            out,
-            at,
-            form::MARGIN_TAG,
-            form::MARGIN_LENGTH,
-            c,
-            d,
-            t,
-            rank,
-        );
+        put_header(out, at, form::MARGIN_TAG, form::MARGIN_LENGTH);
+        put_numbers(out, at + form::HEADER_BYTES, c, d, t, rank);
         wire::put_u16(out, at + form::ROW_BYTES, m);
     }
 }
 
-// What the two forms of a row's field have in common: all but the margin.
-fn put_front(out: &mut [u8], at: usize, tag: u8, bytes: u16, c: u16, d: u16, t: u16, rank: u8)
-    requires { ⌜ at + 10 ≤ length (now out) ⌝ }
-    ensures { λ _. ⌜ now (out .exit) ≡ sets (now (out .entry)) at (frontBytes tag bytes c d t rank) ⌝ }
+// The header of a field at a place; of the end field that is all.
+fn put_header(out: &mut [u8], at: usize, tag: u8, bytes: u16)
+    requires { ⌜ at + 3 ≤ length (now out) ⌝ }
+    ensures { λ _. ⌜ now (out .exit) ≡ sets (now (out .entry)) at (headerBytes tag bytes) ⌝ }
 {
     wire::put_u8(out, at, tag);
     wire::put_u16(out, at + 1, bytes);
-    wire::put_u16(out, at + 3, c);
-    wire::put_u16(out, at + 5, d);
-    wire::put_u16(out, at + 7, t);
-    wire::put_u8(out, at + 9, rank);
 }
 
-// The end field at a place.
-fn put_end(out: &mut [u8], at: usize)
-    requires { ⌜ at + 3 ≤ length (now out) ⌝ }
-    ensures { λ _. ⌜ now (out .exit) ≡ sets (now (out .entry)) at (fileBytes []) ⌝ }
+// The numbers that both forms of a row's field have, at a place.
+fn put_numbers(out: &mut [u8], at: usize, c: u16, d: u16, t: u16, rank: u8)
+    requires { ⌜ at + 7 ≤ length (now out) ⌝ }
+    ensures { λ _. ⌜ now (out .exit) ≡ sets (now (out .entry)) at (numbersBytes c d t rank) ⌝ }
 {
-    wire::put_u8(out, at, form::END_TAG);
-    wire::put_u16(out, at + 1, form::END_LENGTH);
+    wire::put_u16(out, at, c);
+    wire::put_u16(out, at + 2, d);
+    wire::put_u16(out, at + 4, t);
+    wire::put_u8(out, at + 6, rank);
 }

@@ -28,8 +28,8 @@ put-rows-requires c κs =
     let start = c .before .before .before .before in
     (start .pre, omega (arith, c .before .if1 .left, c .before .before .file-size .ensures, length-file (rowsOf (start .args .tb))))
 
-put-end-requires : tie.Need-put-end-requires
-put-end-requires c κs =
+put-header-requires : tie.Need-put-header-requires
+put-header-requires c κs =
     let rows = c .before .before .before in
     let start = rows .before .before .before .before .before in
     let kept : length (rows .put-rows .last .1 .0) ≡ length (start .args .out .now) = rows .put-rows .kept .1 .0 in
@@ -46,7 +46,7 @@ returns-2 c =
     let a = size .before .before .args in
     let e = put-fits (fileBytes (rowsOf (a .tb))) (a .out .now) (size .file-size .result) (sym (size .file-size .ensures)) (rows .before .before .if1 .left) in (
       ap writtenOf (sym e),
-      stored-then (rowsBytes (rowsOf (a .tb))) (fileBytes []) (a .out .now) 0 (rows .put-rows .result) (rows .put-rows .ensures .1) (omega (arith, rows .put-rows .ensures .0)) (end .put-end .ensures)
+      stored-then (rowsBytes (rowsOf (a .tb))) (fileBytes []) (a .out .now) 0 (rows .put-rows .result) (rows .put-rows .ensures .1) (omega (arith, rows .put-rows .ensures .0)) (end .put-header .ensures)
           ∙ ap (sets (a .out .now) 0) (file-bytes (rowsOf (a .tb)))
           ∙ ap (outputAfter (a .out .now)) (sym e),
     )
@@ -54,4 +54,4 @@ returns-2 c =
 pub put-table-spec : {M : Type 1} → statement M
 put-table-spec =
     tie.close
-    (tie.spec file-size-requires returns put-rows-requires put-end-requires same-length returns-2)
+    (tie.spec file-size-requires returns put-rows-requires put-header-requires same-length returns-2)

@@ -1,13 +1,12 @@
--- `table::writing::put_end` meets its contract: one put after another. Assumes nothing.
+-- `table::writing::put_header` meets its contract: one put after another. Assumes nothing.
 use Prim.Native.Nat.{_+_}
 use mathlib.Core.List.{[], _∷_}
 use native.Mathlib.Omega.{arith}
 use borrow.Author.Needs.{needs}
 use Rattle.rules.specs.Fields.{two}
-use Rattle.rules.specs.File.{endTag}
 use Rattle.wire.proofs.Stores.{stored-then}
-use Rattle.table.proofs.writing.put_end.Statement.{statement}
-use Rattle.table.proofs.writing.put_end.Tie as tie
+use Rattle.table.proofs.writing.put_header.Statement.{statement}
+use Rattle.table.proofs.writing.put_header.Tie as tie
 
 put-u8-requires : tie.Need-put-u8-requires
 put-u8-requires c κs = search needs
@@ -26,8 +25,8 @@ returns c =
     let last = c .before .before in
     let first = last .before .before .before .before in
     let a = first .before .before .before .args in
-    stored-then (endTag ∷ []) (two 0) (a .out .now) (a .at) (a .at + 1) (first .put-u8 .ensures) (omega arith) (last .put-u16 .ensures)
+    stored-then (a .tag ∷ []) (two (a .bytes)) (a .out .now) (a .at) (a .at + 1) (first .put-u8 .ensures) (omega arith) (last .put-u16 .ensures)
 
-pub put-end-spec : {M : Type 1} → statement M
-put-end-spec =
+pub put-header-spec : {M : Type 1} → statement M
+put-header-spec =
     tie.close (tie.spec put-u8-requires add-put-u16 put-u16-requires same-length returns)
