@@ -11,7 +11,7 @@ use table::FileRefusal;
 use table::FileVerdict;
 use table::Written;
 
-// refusal: 0, or document 01's number. row: of 6 to 10, else 0. from, size: the shown part of the table file, of 1 to 10, else 0.
+// refusal: 0, or the documents' number. row: of 6 to 10, 21 and 22, else 0. from, size: the shown part of the table file, of 1 to 10, 21 and 22, else 0.
 #[repr(C)]
 pub struct PlanAnswer {
     pub from: usize,
@@ -52,7 +52,7 @@ pub struct TableAnswer {
     pub refusal: u8,
 }
 
-// Plans the table of a file into a fresh block: 11 for its length only, then 1 to 10. A refusal writes nothing.
+// Plans the table of a file into a fresh block: 11 for its length only, then 1 to 10, 21 and 22. A refusal writes nothing.
 #[no_mangle]
 pub extern "C" fn heechstjer_plan(block: &mut [u8], table: &[u8]) -> PlanAnswer
     ensures { λ r. ⌜ r ≡ planBlock (now (block .entry)) (now (table .entry)) .answer ⌝ }
@@ -144,7 +144,7 @@ pub extern "C" fn heechstjer_offer(block: &mut [u8], budget: u16, deadline: u16)
     }
 }
 
-// Writes the table of a block as its file to the front of out: 11, then 5 to 10, then 19. A refusal writes nothing.
+// Writes the table of a block as its file to the front of out: 11, then 5 to 10 and 22, then 19. A refusal writes nothing.
 #[no_mangle]
 pub extern "C" fn heechstjer_table(block: &[u8], out: &mut [u8]) -> TableAnswer
     ensures { λ r. ⌜ r ≡ tableBlock (now (block .entry)) (now (out .entry)) .answer ⌝ }
