@@ -67,8 +67,8 @@ extern "C" {
  *     static const uint8_t table[] = {
  *         HEECHSTJER_ROW(2, 6, 8, 0), HEECHSTJER_MARGIN_ROW(5, 12, 12, 1, 3), HEECHSTJER_END};
  * They are the bytes of the fields. C, D, T, rank and M are constants of an integer type; one that is below 0 or does
- * not fit its field (65,535, and 255 for rank) does not compile. M is slack before D, for a driver that overruns
- * slightly; a row without it is HEECHSTJER_ROW, for M = 0 is refused (21).
+ * not fit its field (65,535, and 255 for rank) does not compile. M is ticks to spare before D, for a driver that takes
+ * a little longer now and then; a row without it is HEECHSTJER_ROW, for M = 0 is refused (21).
  */
 #define HEECHSTJER_ROW(C, D, T, rank) 0x01, 0x00, 0x07, HEECHSTJER_NUMBERS(C, D, T, rank)
 #define HEECHSTJER_MARGIN_ROW(C, D, T, rank, M) \
@@ -213,8 +213,8 @@ heechstjer_plan_answer heechstjer_plan(uint8_t *block, size_t block_bytes, const
  *            ticks after its release on, that tick included. runner, with runner_row and band or ticket, says who.
  *   run      the runner has this tick; the clock advances by one.
  * The block is written back. A row that is released and not reported done is named C times in the D - M ticks from
- * its release on, whatever else is called, and never more than C times from one release to the next. The M ticks that
- * are left to D are the slack of a driver that overruns slightly.
+ * its release on, whatever else is called, and never more than C times from one release to the next. The M ticks from
+ * there to D are to spare.
  *
  * Checks, in this order:
  *   20  a flag bit other than done and soft.

@@ -1,6 +1,6 @@
 -- What a kernel may rely on, over blocks: calls on the block that planning left, each given the block that the last one left. Assumes nothing.
 -- A block is a list of bytes, and everything is counted from the answers of the exported functions (specs/Blocks.antt).
-use Prim.Native.Nat.{ℕ, _*_, _-_, _%_, _^_, _≤_, _<_}
+use Prim.Native.Nat.{ℕ, _-_, _%_, _^_, _≤_, _<_}
 use mathlib.Core.Bool.{true, cond}
 use mathlib.Core.List.{List, [], _∷_, _++_, map}
 use mathlib.Core.Logic.{_⊎_}

@@ -15,12 +15,8 @@ use Rattle.rules.specs.Rows.{Row, rowFault, rowsFault}
 use Rattle.rules.specs.Bound.{Plan, PlannedRow, plan, planRows, planned, unplanned}
 use Rattle.rules.specs.File.{Field, Scan, broken, fieldRows, fieldsFault, fileBytes, marginBytes, marginTag, plainBytes, planFields, planScan, put, read, read-as, readScan, rowTag, scan, unread, unwritten, whole, write, writePlan, written, zeroMargin}
 use Rattle.rules.specs.Tables.{Accepted, Bytes, RowNarrow}
-use Rattle.rules.specs.Tick.{passed}
-use Rattle.rules.specs.Calls.{after}
-use Rattle.rules.specs.Image.{narrow}
 use Rattle.rules.proofs.Bools.{some-none}
 use Rattle.rules.proofs.Plans.{planned-iff, rowsIn, unplanned-not}
-use Rattle.rules.proofs.Queue.{rest}
 use Rattle.rules.proofs.Scan.{NoZero, fieldFor, scan-file, scan-whole, written-fields}
 
 unread-not : (why : Refusal) (from size : ℕ) (ps : List PlannedRow) → unread why from size ≡ read-as ps → ⊥

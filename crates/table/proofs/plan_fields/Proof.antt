@@ -1,13 +1,11 @@
 -- `table::plan_fields` meets its contract: what the checks of rows say, then the plan. Assumes nothing.
 use mathlib.Core.List.{[]}
-use mathlib.Core.Option.{Option}
 use mathlib.Core.Path.{_≡_, sym, ap, _∙_}
 use Prim.Native.Nat.{ℕ}
 use borrow.Author.Needs.{needs}
 use lib.ListN.{length}
 use Rattle.rules.specs.Bound.{planRows}
 use Rattle.rules.specs.File.{fieldsFault}
-use Rattle.rules.specs.Rows.{Row}
 use Rattle.table.specs.Memory.{fieldAt, fieldsOf}
 use Rattle.table.specs.Answers.{checkedOf, planningOf}
 use Rattle.table.proofs.Places.{length-indexed}

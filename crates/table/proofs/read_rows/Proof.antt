@@ -1,5 +1,4 @@
 -- `table::read_rows` meets its contract: what is read by the verdict of planning. Assumes nothing.
-use Prim.Native.Nat.{ℕ, _≤_}
 use mathlib.Core.List.{List}
 use mathlib.Core.Path.{_≡_, refl, sym, ap, _∙_}
 use native.Mathlib.Omega.{arith}

@@ -1,6 +1,6 @@
 -- `checks::rows_good` meets its contract: what is together so far are the faults passed. Assumes nothing.
 use Prim.Native.Nat.{_-_, _≤_}
-use mathlib.Core.Path.{_≡_, sym, _∙_}
+use mathlib.Core.Path.{_≡_, sym}
 use lib.ListN.{length}
 use native.Mathlib.Omega.{arith}
 use Rattle.block.specs.Places.{block-bytes}

@@ -1,5 +1,5 @@
 -- `table::bounds::demand` meets its contract. The invariant: the sum is what the first j rows ask, at most 65535 * 65535 each. The measure is how many rows are left. Assumes nothing.
-use Prim.Native.Nat.{ℕ, _-_, _*_, _≤_}
+use Prim.Native.Nat.{_-_, _*_, _≤_}
 use mathlib.Core.Path.{_≡_, ap, _∙_}
 use native.Mathlib.Omega.{arith}
 use borrow.Author.Needs.{needs}

@@ -1,10 +1,10 @@
 -- `table::scan::row_refusal` meets its contract. The invariant: at is where the field at k starts. The measure is how many fields are left. Assumes nothing.
-use Prim.Native.Nat.{ℕ, suc, _+_, _-_, _≤_}
-use mathlib.Core.Path.{_≡_, sym, ap, _∙_}
+use Prim.Native.Nat.{suc, _+_, _-_, _≤_}
+use mathlib.Core.Path.{_≡_, ap, _∙_}
 use native.Mathlib.Omega.{arith}
 use borrow.Author.Needs.{needs}
-use Rattle.table.specs.Walk.{sizeAt, startOf, tagAt}
-use Rattle.table.proofs.Walked.{header-stands, row-stands, size-within, start-next}
+use Rattle.table.specs.Walk.{sizeAt, startOf}
+use Rattle.table.proofs.Walked.{header-stands, row-stands, start-next}
 use Rattle.table.proofs.scan.row_refusal.Statement.{statement}
 use Rattle.table.proofs.scan.row_refusal.Tie as tie
 

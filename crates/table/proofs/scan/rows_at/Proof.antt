@@ -1,5 +1,5 @@
 -- `table::scan::rows_at` meets its contract. The invariant: each column holds the first i rows, and at is where the field at i starts. The measure is how many rows are left. Assumes nothing.
-use Prim.Native.Nat.{ℕ, _+_, _-_, _≤_}
+use Prim.Native.Nat.{ℕ, _-_, _≤_}
 use mathlib.Core.Path.{_≡_, ap, _∙_}
 use native.Mathlib.Omega.{arith}
 use lib.ListN.{drop}

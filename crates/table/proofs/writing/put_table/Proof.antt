@@ -1,5 +1,4 @@
 -- `table::writing::put_table` meets its contract: too small, or the rows' bytes and then the end field. Assumes nothing.
-use Prim.Native.Nat.{_+_}
 use mathlib.Core.List.{[]}
 use mathlib.Core.Path.{_≡_, sym, ap, _∙_}
 use native.Mathlib.Omega.{arith}
