@@ -17,10 +17,10 @@ use Rattle.rules.specs.File.{rowTag, marginTag, endTag, tableLength, isR
 use Rattle.rules.specs.Tables.{RowNarrow, Bytes}
 use Rattle.rules.proofs.Fields.{FieldOk, field-ok, ok-field, byte-lt, drop-bytes, two-word, drop-byte, drop-word}
 
-pub broken-not : (why : Refusal) (from size : ℕ) (fs : List Field) → broken why from size ≡ whole fs → ⊥
+broken-not : (why : Refusal) (from size : ℕ) (fs : List Field) → broken why from size ≡ whole fs → ⊥
 broken-not why from size fs e = let z : _≡_ {A = ℕ} 0 1 = cc in omega arith
 
-pub whole-same : (fs gs : List Field) → whole fs ≡ whole gs → fs ≡ gs
+whole-same : (fs gs : List Field) → whole fs ≡ whole gs → fs ≡ gs
 whole-same fs gs e = cc
 
 -- the writer's bytes
@@ -146,7 +146,7 @@ field-whole more at s h after fs = unfaulted (fieldFault tableLength (isRow s &&
         let (n, ok) = field-ok tableLength (isRow s && eqb more 0) s p in
         tagged n ok (eqb (byte s 0) rowTag) refl (eqb (byte s 0) marginTag) refl (eqb (byte s 0) endTag) refl (ok .tag-is) (ok .not-late) e
 
-pub with-first : (f : Field) (o : Scan) (fs : List Field) → withFirst f o ≡ whole fs → (rest : List Field) × (o ≡ whole rest) × (fs ≡ f ∷ rest)
+with-first : (f : Field) (o : Scan) (fs : List Field) → withFirst f o ≡ whole fs → (rest : List Field) × (o ≡ whole rest) × (fs ≡ f ∷ rest)
 with-first f (whole rest) fs e = (rest, refl, sym (whole-same (f ∷ rest) fs e))
 with-first f (broken why from size) fs e = absurd (broken-not why from size fs e)
 

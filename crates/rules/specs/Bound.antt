@@ -1,4 +1,4 @@
--- Document 01, "Response bound and promotion": f, the iteration, R, the rounds and U; checks 10 and 22. Assumes nothing.
+-- Document 01, "Response bound and promotion", with document 02's margin: f, the iteration, R, the rounds and U; checks 10 and 22. Assumes nothing.
 use Prim.Native.Nat.{ℕ, zero, suc, _+_, _-_, _*_, _/_}
 use mathlib.Core.Bool.{cond}
 use mathlib.Core.List.{List, [], _∷_}

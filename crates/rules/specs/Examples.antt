@@ -114,7 +114,9 @@ refusals =
     ∷ (block-of (oneRow 2 3 (opened 0) (row-at 0)), refuses 11 0)
     ∷ (block-of (oneRow 2 3 closed (row-at 0)), refuses 11 0)
     ∷ (block-of (oneRow 2 3 (opened 2) (row-at 0)), passes)
-    -- 11: U above D − C − M; and not above it
+    -- 11: C + M above D, and not above it; U above D − C − M, and not above it
+    ∷ (block-of (marginRow 5 1 3 (opened 1) (row-at 0)), refuses 11 0)
+    ∷ (block-of (marginRow 4 2 3 (opened 1) (row-at 0)), passes)
     ∷ (block-of (marginRow 1 1 3 (opened 1) (row-at 0)), refuses 11 0)
     ∷ (block-of (marginRow 1 2 3 (opened 1) (row-at 0)), passes)
     -- 11: budget 0; a gap in the tickets; not up to the next; 9 jobs; fully run, and not the last runner; the last runner not the first; and nothing wrong

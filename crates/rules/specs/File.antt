@@ -1,4 +1,4 @@
--- Document 01, the table file: reading (1 to 10, 21, 22, with the part that a refusal shows) and writing (5 to 10, 22, 19). Assumes nothing.
+-- The table file of documents 01 and 02: reading (1 to 10, 21, 22, with the part that a refusal shows) and writing (5 to 10, 22, 19). Assumes nothing.
 use Prim.Native.Nat.{ℕ, zero, suc, _+_, _-_}
 use mathlib.Core.Bool.{Bool, cond, _&&_, _||_}
 use mathlib.Core.List.{List, [], _∷_, _++_, map}
@@ -44,7 +44,7 @@ rowOf s = record { C = word s 3; D = word s 5; T = word s 7; rank = byte s 9; M 
 abbrev pub fieldOf : List ℕ → Field
 fieldOf s = record { tag = byte s 0; row = rowOf s }
 
--- the bytes of a row's field
+-- how many bytes a row's field has, by its tag
 abbrev pub sizeOf : ℕ → ℕ
 sizeOf tag = cond (eqb tag marginTag) 12 10
 
@@ -82,7 +82,7 @@ pub data Reading : Type 0 where
 abbrev pub fieldRows : List Field → List Row
 fieldRows fs = map (λ f. f .row) fs
 
--- the bytes of the fields
+-- how many bytes the fields have
 abbrev pub sizes : List Field → ℕ
 sizes fs = total (λ f. sizeOf (f .tag)) fs
 

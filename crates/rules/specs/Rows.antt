@@ -1,4 +1,4 @@
--- Document 01, "The hard table": a row, and the checks 6 to 9. Rows are counted from 0 here: row 1 stands at position 0. Assumes nothing.
+-- Document 01, "The hard table", with document 02's margin: a row, and the checks 6 to 9. Rows are counted from 0 here: row 1 stands at position 0. Assumes nothing.
 use Prim.Native.Nat.{ℕ, suc, _-_}
 use mathlib.Core.Bool.{Bool, cond, _||_}
 use mathlib.Core.List.{List, [], _∷_}

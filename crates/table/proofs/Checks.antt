@@ -58,25 +58,22 @@ fault-end rows i h =
     ap (λ (n : ℕ). fieldsFault (rows .table .n) (aboveOf (rows .table) i) i (indexed (fieldAt rows) i n)) left
 
 -- 21 in a row that passes 6 to 9, and in one that does not
+
+at-orElse : (i : ℕ) (o z : Option Refusal)
+    → Option·map (λ why. atRow why i) (orElse o z) ≡ orElse (Option·map (λ why. atRow why i) o) (Option·map (λ why. atRow why i) z)
+at-orElse i none z = refl
+at-orElse i (some why) z = refl
+
 module _ (o : Option Refusal) (i : ℕ) (zero-margin : Bool) where
-  abbrev withZero : Option Refused
-  withZero = Option·map (λ why. atRow why i) (orElse o (cond zero-margin (some M-zero) none))
+  -- what 21 says of it
+  abbrev asked : Option Refusal
+  asked = cond zero-margin (some M-zero) none
 
-  pub zero-asked : checkedOf (Option·map (λ why. atRow why i) o) ≡ Checked.Passed → withZero ≡ Option·map (λ why. atRow why i) (cond zero-margin (some M-zero) none)
-  zero-asked e = go o e
-    where
-      go : (o : Option Refusal) → checkedOf (Option·map (λ why. atRow why i) o) ≡ Checked.Passed
-          → Option·map (λ why. atRow why i) (orElse o (cond zero-margin (some M-zero) none)) ≡ Option·map (λ why. atRow why i) (cond zero-margin (some M-zero) none)
-      go none e = refl
-      go (some why) e = absurd (let z : _≡_ {A = ℕ} 0 1 = cc in omega arith)
+  pub zero-asked : checkedOf (Option·map (λ why. atRow why i) o) ≡ Checked.Passed → Option·map (λ why. atRow why i) (orElse o asked) ≡ Option·map (λ why. atRow why i) asked
+  zero-asked e = at-orElse i o asked ∙ passed-none o i (Option·map (λ why. atRow why i) asked) e
 
-  pub zero-not-asked : {k row : ℕ} → checkedOf (Option·map (λ why. atRow why i) o) ≡ Checked.Failed k row → checkedOf withZero ≡ Checked.Failed k row
-  zero-not-asked {k} {row} e = go o e
-    where
-      go : (o : Option Refusal) → checkedOf (Option·map (λ why. atRow why i) o) ≡ Checked.Failed k row
-          → checkedOf (Option·map (λ why. atRow why i) (orElse o (cond zero-margin (some M-zero) none))) ≡ Checked.Failed k row
-      go none e = absurd (let z : _≡_ {A = ℕ} 0 1 = cc in omega arith)
-      go (some why) e = e
+  pub zero-not-asked : {k row : ℕ} → checkedOf (Option·map (λ why. atRow why i) o) ≡ Checked.Failed k row → checkedOf (Option·map (λ why. atRow why i) (orElse o asked)) ≡ Checked.Failed k row
+  zero-not-asked {k} {row} e = ap checkedOf (at-orElse i o asked) ∙ failed-some o i k row (Option·map (λ why. atRow why i) asked) e
 
 -- a row with no fault has 1 ≤ C ≤ D ≤ T
 tests-none : (zero-C over-D over-T rank : Bool) → cond zero-C (some C-zero) (cond over-D (some C-over-D) (cond over-T (some D-over-T) (cond rank (some bad-rank) none))) ≡ none → (zero-C ≡ false) × (over-D ≡ false) × (over-T ≡ false)

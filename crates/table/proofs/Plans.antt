@@ -1,16 +1,15 @@
 -- The plan of a table, a row at a time: what is planned so far, in memory, and the plan of the rows that are left. Assumes nothing.
-use Prim.Native.Nat.{ℕ, zero, suc, _+_, _-_, _≤_, _<_}
+use Prim.Native.Nat.{ℕ, suc, _+_, _-_, _≤_, _<_}
 use mathlib.Core.Path.{_≡_, refl, sym, ap, _∙_}
-use mathlib.Core.Bool.{Bool, true, false, cond}
+use mathlib.Core.Bool.{Bool, cond}
 use mathlib.Core.List.{List, [], _∷_, _++_, map, append-assoc, append-nil}
 use native.Mathlib.Numerals.{add-one}
 use native.Mathlib.Omega.{arith}
-use lib.Dec.{ltb, eqb}
 use lib.ListN.{length, set, length-append}
-use borrow.Author.Tests.{le-ltb, lt-ltb, ltb-false}
+use borrow.Author.Tests.{le-ltb, lt-ltb}
 use Rattle.rules.specs.Refusals.{R-M-over-D, atRow}
 use Rattle.rules.specs.Rows.{Row}
-use Rattle.rules.specs.Bound.{f, Bound, bound, none-to-D, iterate, onto, response, promotion, PlannedRow, planned, unplanned, withRow, planRows}
+use Rattle.rules.specs.Bound.{Bound, bound, none-to-D, onto, response, promotion, PlannedRow, planned, unplanned, withRow, planRows}
 use Rattle.rules.specs.Bound as rules
 use Rattle.table.specs.Memory.{indexed, fill, rowAt, rowsOf, aboveOf}
 use Rattle.table.specs.Answers.{boundOf, refusedPlanning, planningOf}
@@ -28,20 +27,6 @@ bound-found none-to-D e = absurd (let z : _≡_ {A = ℕ} 0 1 = cc in omega arit
 pub bound-passes : (b : Bound) → code.Bound.PassesD ≡ boundOf b → b ≡ none-to-D
 bound-passes (bound R k) e = absurd (let z : _≡_ {A = ℕ} 0 1 = cc in omega arith)
 bound-passes none-to-D e = refl
-
--- a bound does not pass D
-turn-le : (r : Row) (w k : ℕ) (next : Bound) (over same : Bool) {R rounds : ℕ} → ltb (r .D) w ≡ over → (next ≡ bound R rounds → R ≤ r .D) → cond over none-to-D (cond same (bound w (suc k)) next) ≡ bound R rounds → R ≤ r .D
-turn-le r w k next true same p ih e = absurd (let z : _≡_ {A = ℕ} 0 1 = cc in omega arith)
-turn-le r w k next false true {R} p ih e = let found : w ≡ R = cc in omega (arith, ltb-false (r .D) w p)
-turn-le r w k next false false p ih e = ih e
-
-iterate-le : (above : List Row) (r : Row) (n k w : ℕ) {R rounds : ℕ} → iterate above r n k w ≡ bound R rounds → R ≤ r .D
-iterate-le above r zero k w e = absurd (let z : _≡_ {A = ℕ} 0 1 = cc in omega arith)
-iterate-le above r (suc n) k w e =
-    turn-le r w k (iterate above r n (suc k) (f above r w)) (ltb (r .D) w) (eqb (f above r w) w) refl (iterate-le above r n (suc k) (f above r w)) e
-
-pub bound-le : (above : List Row) (r : Row) {R rounds : ℕ} → response above r ≡ bound R rounds → R ≤ r .D
-bound-le above r e = iterate-le above r (suc (r .D - r .C)) 0 (r .C) e
 
 -- planned rows before a plan
 abbrev pub prepend : List PlannedRow → rules.Plan → rules.Plan

@@ -179,7 +179,7 @@ fn margin_at(s: &[u8], at: usize) -> u16
     ensures { λ r. ⌜ r ≡ rowOf (drop at (now (s .entry))) .M ⌝ }
 {
     if s[at] == form::MARGIN_TAG {
-        wire::get_u16(s, at + 10)
+        wire::get_u16(s, at + form::ROW_BYTES)
     } else {
         0
     }
