@@ -13,6 +13,14 @@ and-true false b e = absurd (false≢true e)
 pub true-and : {a b : Bool} → a ≡ true → b ≡ true → (a && b) ≡ true
 true-and p q = rw (p, q)
 
+pub and-yes : (b : Bool) → (b && true) ≡ b
+and-yes true = refl
+and-yes false = refl
+
+pub and-no : (b : Bool) → (b && false) ≡ false
+and-no true = refl
+and-no false = refl
+
 pub or-true : (a b : Bool) → (a || b) ≡ true → (a ≡ true) ⊎ (b ≡ true)
 or-true true b e = inl refl
 or-true false b e = inr e

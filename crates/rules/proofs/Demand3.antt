@@ -1,17 +1,16 @@
 -- Demand 3, of a station that is kept: what follows of its table. Assumes nothing.
 use Prim.Native.Nat.{ℕ, _+_, _≤_}
 use mathlib.Core.Bool.{Bool, true}
-use mathlib.Core.List.{List, _∷_}
-use mathlib.Core.Logic.{_⊎_}
+use mathlib.Core.List.{List}
 use mathlib.Core.Path.{_≡_}
 use native.Mathlib.Nat.{zero-add}
 use native.Mathlib.Omega.{arith}
-use Rattle.rules.specs.Rows.{Row, deadline}
+use Rattle.rules.specs.Rows.{Row}
 use Rattle.rules.specs.Station.{Station, closed, rested, rowsOf}
-use Rattle.rules.specs.Tick.{Ticked, bit, close, done, firm-job, hard-job, no-tick, tick, ticked}
+use Rattle.rules.specs.Tick.{close, done, firm-job, opens, tick}
 use Rattle.rules.specs.Offer.{Offered, accepted, no-offer, offer}
-use Rattle.rules.specs.Calls.{Call, Reported, after, answered, count, doneFlag, namesRow, namesTicket, releases, replies, returns, softFlag, ticks}
-use Rattle.rules.specs.Promise.{Demand3, HardPromise, NeverOpen, OnOffered, OnTicked, UploadPromise}
+use Rattle.rules.specs.Calls.{Call, after, count, doneFlag, namesTicket, replies, returns, softFlag}
+use Rattle.rules.specs.Promise.{Demand3, HardPromise, NeverOpen, OnOffered, OnTick, UploadPromise}
 use Rattle.rules.proofs.Calls.{on-call}
 use Rattle.rules.proofs.HardJobs.{RowIs, hard-in-time, rested-closed}
 use Rattle.rules.proofs.HardMost.{hard-most}
@@ -25,17 +24,9 @@ use Rattle.rules.proofs.UploadMost.{upload-most}
 use Rattle.rules.proofs.Uploads.{follow-upload}
 use Rattle.rules.proofs.Walks.{Holds, at-holds, holds-all, holds-at, holds-imp}
 
-hard-promise : (k : ℕ) (r : Row) (st : Station) (set : ℕ) (d wants : Bool) → Kept st → Holds (RowIs r) k 0 (st .slots) → bit set k ≡ true
-    → OnTicked (HardPromise k r) (tick st set d wants)
-hard-promise k r st set d wants K H b = go (tick st set d wants) (hard-in-time k r st set d wants K H b) (hard-most k r st set d wants K H b)
-  where
-    go : (T : Ticked)
-        → OnTicked (λ st′ x. (later : List Call) → deadline r ≤ ticks (answered x ∷ replies st′ later)
-        → (r .C ≤ count (namesRow k) (answered x ∷ replies st′ later)) ⊎ Reported (hard-job k done) (replies st′ later)) T
-        → OnTicked (λ st′ x. (later : List Call) → releases k later (replies st′ later) ≡ 0 → count (namesRow k) (answered x ∷ replies st′ later) ≤ r .C) T
-        → OnTicked (HardPromise k r) T
-    go (ticked st′ x) p q = record { in-time = p; never-more = q }
-    go (no-tick x) p q = tt
+hard-promise : (k : ℕ) (r : Row) (st : Station) (set : ℕ) (d wants : Bool) → Kept st → Holds (RowIs r) k 0 (st .slots)
+    → OnTick (λ st′ x. opens set (x .notes) k ≡ true → HardPromise k r st′ x) (tick st set d wants)
+hard-promise k r st set d wants K H b = record { in-time = hard-in-time k r st set d wants K H b; never-more = hard-most k r st set d wants K H b }
 
 upload-promise : (st : Station) (B d : ℕ) → Kept st → OnOffered (UploadPromise B d) (offer st B d)
 upload-promise st B d K = go (offer st B d) (offer-kept st B d K) (offer-held st B d (next-new st (K .tickets))) (upload-most st B d K)
@@ -52,11 +43,11 @@ upload-promise st B d K = go (offer st B d) (offer-kept st B d K) (offer-held st
 
 pub demand3 : (rs : List Row) (start : Station) → Kept start → rowsOf (start .slots) ≡ rs → Demand3 rs start
 demand3 rs start K q = record {
-  hard-jobs = λ before set flags k r b e.
+  hard-jobs = λ before set flags k r e.
       let st = after start before in
-      on-call (HardPromise k r) st set flags
+      on-call (λ st′ x. opens set (x .notes) k ≡ true → HardPromise k r st′ x) st set flags
       (hard-promise k r st set (doneFlag flags) (softFlag flags) (kept-after before start K)
-      (rw (zero-add k) at (row-holds r k 0 (st .slots) (rw (rows-after rs before start q) e))) b);
+      (rw (zero-add k) at (row-holds r k 0 (st .slots) (rw (rows-after rs before start q) e))));
   uploads = λ before B d. upload-promise (after start before) B d (kept-after before start K);
 }
 

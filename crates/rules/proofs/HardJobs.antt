@@ -12,13 +12,12 @@ use native.Mathlib.Nat.{add-zero, zero-add}
 use native.Mathlib.Numerals.{add-one}
 use native.Mathlib.Omega.{arith}
 use Rattle.rules.specs.Lists.{All, any}
-use Rattle.rules.specs.Refusals.{refusal}
 use Rattle.rules.specs.Rows.{Row, deadline}
 use Rattle.rules.specs.Station.{Job, Slot, Station, closed, opened, promoted, rested, wait}
-use Rattle.rules.specs.Tick.{Answer, Closed, How, Runner, Ticked, bit, choose, close, closeRow, closesAs, done, firm, fullAt, fullyRun, hard, hard-job, idle, lastAt, lastOf, no-tick, passed, release, released, shut, soft, spent, tick, ticked}
+use Rattle.rules.specs.Tick.{Answer, Closed, How, Runner, choose, close, closeRow, closesAs, done, firm, fullAt, fullyRun, hard, hard-job, idle, lastAt, lastOf, notesOf, opens, passed, release, released, shut, soft, spent, tick}
 use Rattle.rules.specs.Offer.{Offered, accepted, no-offer, offer}
-use Rattle.rules.specs.Calls.{Call, Reply, Reported, afterOffer, afterTick, answered, count, doneFlag, namesRow, offer-call, replies, softFlag, tick-call, tickCall, ticks}
-use Rattle.rules.specs.Promise.{OnOffered, OnTicked}
+use Rattle.rules.specs.Calls.{Call, Reply, Reported, Ticked, afterOffer, afterTick, answered, count, doneFlag, namesRow, no-tick, offer-call, replies, softFlag, tick-call, tickCall, ticked, ticks}
+use Rattle.rules.specs.Promise.{OnOffered, OnTick, OnTicked}
 use Rattle.rules.proofs.Bools.{and-true, or-true}
 use Rattle.rules.proofs.Calls.{on-call}
 use Rattle.rules.proofs.Close.{close-holds, closes-spent, on-close, shut-keeps}
@@ -28,7 +27,7 @@ use Rattle.rules.proofs.Hard.{AllReady, AllSafe, Safe, left}
 use Rattle.rules.proofs.Kept.{Kept, call-kept, offer-kept, tick-kept}
 use Rattle.rules.proofs.Offer.{on-offer}
 use Rattle.rules.proofs.Served.{Served, all-run, answer-served, early, in-time, refused-served, reported, took-served}
-use Rattle.rules.proofs.Tick.{After, Mid, close-mid, on-tick, release-mid}
+use Rattle.rules.proofs.Tick.{After, Mid, close-mid, on-tick, opensOf, release-mid}
 use Rattle.rules.proofs.Walks.{Holds, holds-all, holds-each, holds-ge, holds-gives}
 
 -- the row's job is open, has run r ticks, and is a ticks old
@@ -122,9 +121,9 @@ not-released : (w : Row) (r a : ℕ) (b : Bool) → (b ≡ true → ⊥) → (s 
 not-released w r a true e s J = absurd (e refl)
 not-released w r a false e s J = J
 
-release-job : (set : ℕ) (w : Row) (r a k : ℕ) (ss : List Slot) → AllReady (bit set) 0 ss → Holds (JobIs w r a) k 0 ss → Holds (JobIs w r a) k 0 (release set ss)
-release-job set w r a k ss R H =
-    holds-each (JobIs w r a) (JobIs w r a) (λ m s. cond (bit set m) (released s) s) k (not-released w r a (bit set k) (ready-job (bit set) w r a k 0 ss R H)) 0 ss H
+release-job : (f : ℕ → Bool) (w : Row) (r a k : ℕ) (ss : List Slot) → AllReady f 0 ss → Holds (JobIs w r a) k 0 ss → Holds (JobIs w r a) k 0 (release f ss)
+release-job f w r a k ss R H =
+    holds-each (JobIs w r a) (JobIs w r a) (λ m s. cond (f m) (released s) s) k (not-released w r a (f k) (ready-job f w r a k 0 ss R H)) 0 ss H
 
 -- run
 
@@ -154,25 +153,25 @@ data Next (k : ℕ) (w : Row) (r a : ℕ) (st : Station) (x : Answer) : Type 0 w
   onward : Holds (JobIs w (r + namesRow k (x .runner)) (suc a)) k 0 (st .slots) → Next k w r a st x
 
 job-tick : (k : ℕ) (w : Row) (r a : ℕ) (st : Station) (set : ℕ) (d wants : Bool) → Kept st → Holds (JobIs w r a) k 0 (st .slots)
-    → OnTicked (Next k w r a) (tick st set d wants)
+    → OnTick (Next k w r a) (tick st set d wants)
 job-tick k w r a st set d wants K H = on-tick (Next k w r a) st set d wants (λ rd. go rd (close-job k w r a st d H))
   where
     M : Mid (close st d .station .slots)
     M = close-mid st d (K .inv)
 
-    goOn : AllReady (bit set) 0 (close st d .station .slots) → Holds (JobIs w r a) k 0 (close st d .station .slots) → (w .C ≤ r) ⊎ (a < deadline w)
-        → After (Next k w r a) (close st d) set wants
+    goOn : AllReady (opensOf st set d) 0 (close st d .station .slots) → Holds (JobIs w r a) k 0 (close st d .station .slots) → (w .C ≤ r) ⊎ (a < deadline w)
+        → After (Next k w r a) (close st d) set (notesOf st set d) wants
     goOn rd H (inl q) = now-spent q
     goOn rd H (inr l) =
-        let ss = release set (close st d .station .slots) in
+        let ss = release (opensOf st set d) (close st d .station .slots) in
         let ru = choose ss (close st d .station .firms) wants in
         onward (rw (names-is k ru)
         (holds-each (λ s. JobIs w r a s × Good s) (JobIs w (r + cond (lastAt (lastOf ru) k) 1 0) (suc a)) (λ m s. passed (lastAt (lastOf ru) m) s) k
         (passed-job w r a (lastAt (lastOf ru) k) (omega arith)) 0 ss
-        (holds-all (JobIs w r a) Good k 0 ss (release-mid set (close st d .station .slots) rd M .good)
-        (release-job set w r a k (close st d .station .slots) rd H))))
+        (holds-all (JobIs w r a) Good k 0 ss (release-mid (opensOf st set d) (close st d .station .slots) rd M .good)
+        (release-job (opensOf st set d) w r a k (close st d .station .slots) rd H))))
 
-    go : AllReady (bit set) 0 (close st d .station .slots) → Fate k w r a (close st d) → After (Next k w r a) (close st d) set wants
+    go : AllReady (opensOf st set d) 0 (close st d .station .slots) → Fate k w r a (close st d) → After (Next k w r a) (close st d) set (notesOf st set d) wants
     go rd (is-done e) = now-done e
     go rd (is-spent e) = now-spent e
     go rd (goes-on H) = goOn rd H (in-time-all _ w r a k 0 (λ w. 0) (close st d .station .slots) (M .safe) (M .good) H)
@@ -207,7 +206,7 @@ follow-job (offer-call B d ∷ cs) st k w r a K H =
     go : (o : Offered) → OnOffered (λ st′ t. Kept st′) o → OnOffered (λ st′ t. Holds (JobIs w r a) k 0 (st′ .slots)) o
         → ((st′ : Station) → Kept st′ → Holds (JobIs w r a) k 0 (st′ .slots) → Promised k w r a (replies st′ cs))
         → Promised k w r a (afterOffer st o .reply ∷ replies (afterOffer st o .station) cs)
-    go (no-offer why) K′ H′ ih = refused-served (hard-job k done) (namesRow k) (w .C) (deadline w) r a (refusal why) (replies st cs) (ih st K H)
+    go (no-offer why) K′ H′ ih = refused-served (hard-job k done) (namesRow k) (w .C) (deadline w) r a why (replies st cs) (ih st K H)
     go (accepted st′ t) K′ H′ ih = took-served (hard-job k done) (namesRow k) (w .C) (deadline w) r a t (replies st′ cs) (ih st′ K′ H′)
 
 -- a release
@@ -226,31 +225,27 @@ pub close-row : (k : ℕ) (w : Row) (st : Station) (d : Bool) → Holds (RowIs w
 close-row k w st d H = close-holds (RowIs w) (shut-row w) k st d H
 
 -- the job that the tick releases
-release-tick : (k : ℕ) (w : Row) (st : Station) (set : ℕ) (d wants : Bool) → Kept st → Holds (RowIs w) k 0 (st .slots) → bit set k ≡ true
-    → OnTicked (λ st′ x. Holds (JobIs w (0 + namesRow k (x .runner)) 1) k 0 (st′ .slots)) (tick st set d wants)
-release-tick k w st set d wants K H b = on-tick (λ st′ x. Holds (JobIs w (0 + namesRow k (x .runner)) 1) k 0 (st′ .slots)) st set d wants (λ rd.
-    let ss = release set (close st d .station .slots) in
+release-tick : (k : ℕ) (w : Row) (st : Station) (set : ℕ) (d wants : Bool) → Kept st → Holds (RowIs w) k 0 (st .slots)
+    → OnTick (λ st′ x. opens set (x .notes) k ≡ true → Holds (JobIs w (0 + namesRow k (x .runner)) 1) k 0 (st′ .slots)) (tick st set d wants)
+release-tick k w st set d wants K H = on-tick (λ st′ x. opens set (x .notes) k ≡ true → Holds (JobIs w (0 + namesRow k (x .runner)) 1) k 0 (st′ .slots)) st set d wants (λ rd b.
+    let ss = release (opensOf st set d) (close st d .station .slots) in
     let ru = choose ss (close st d .station .firms) wants in
-    let M = release-mid set (close st d .station .slots) rd (close-mid st d (K .inv)) in
-    let H0 = holds-all (JobIs w 0 0) Good k 0 ss (M .good) (holds-each (RowIs w) (JobIs w 0 0) (λ m s. cond (bit set m) (released s) s) k (now-open w (bit set k) b) 0 (close st d .station .slots) (close-row k w st d H)) in
+    let M = release-mid (opensOf st set d) (close st d .station .slots) rd (close-mid st d (K .inv)) in
+    let H0 = holds-all (JobIs w 0 0) Good k 0 ss (M .good) (holds-each (RowIs w) (JobIs w 0 0) (λ m s. cond (opensOf st set d m) (released s) s) k (now-open w (opensOf st set d k) b) 0 (close st d .station .slots) (close-row k w st d H)) in
     let D1 : 0 < w .D = holds-gives (λ s. JobIs w 0 0 s × Good s) (0 < w .D) k 0 ss (λ s p. omega (arith, p .1, ap (λ x. x .D) (p .0 .row-is))) H0 in
     rw (names-is k ru)
     (holds-each (λ s. JobIs w 0 0 s × Good s) (JobIs w (0 + cond (lastAt (lastOf ru) k) 1 0) 1) (λ m s. passed (lastAt (lastOf ru) m) s) k
     (passed-job w 0 0 (lastAt (lastOf ru) k) D1) 0 ss H0))
 
 -- From any kept station: the tick releases row k, and any calls follow. The releasing tick's own closing is that of the row's previous job, and does not count.
-pub hard-in-time : (k : ℕ) (w : Row) (st : Station) (set : ℕ) (d wants : Bool) → Kept st → Holds (RowIs w) k 0 (st .slots) → bit set k ≡ true
-    → OnTicked (λ st′ x. (later : List Call) → deadline w ≤ ticks (answered x ∷ replies st′ later)
+pub hard-in-time : (k : ℕ) (w : Row) (st : Station) (set : ℕ) (d wants : Bool) → Kept st → Holds (RowIs w) k 0 (st .slots)
+    → OnTick (λ st′ x. opens set (x .notes) k ≡ true → (later : List Call) → deadline w ≤ ticks (answered x ∷ replies st′ later)
     → (w .C ≤ count (namesRow k) (answered x ∷ replies st′ later)) ⊎ Reported (hard-job k done) (replies st′ later)) (tick st set d wants)
-hard-in-time k w st set d wants K H b = go (tick st set d wants) (tick-kept st set d wants K) (release-tick k w st set d wants K H b)
-  where
-    go : (T : Ticked) → OnTicked (λ st′ x. Kept st′) T → OnTicked (λ st′ x. Holds (JobIs w (0 + namesRow k (x .runner)) 1) k 0 (st′ .slots)) T
-        → OnTicked (λ st′ x. (later : List Call) → deadline w ≤ ticks (answered x ∷ replies st′ later)
-        → (w .C ≤ count (namesRow k) (answered x ∷ replies st′ later)) ⊎ Reported (hard-job k done) (replies st′ later)) T
-    go (no-tick x) K′ H′ = tt
-    go (ticked st′ x) K′ H′ = λ later h.
-        in-time (hard-job k done) (namesRow k) (w .C) (deadline w) (namesRow k (x .runner)) 1 (replies st′ later)
-        (follow-job later st′ k w (namesRow k (x .runner)) 1 K′ (rw (zero-add (namesRow k (x .runner))) at H′)) h
+hard-in-time k w st set d wants K H b later h =
+    let st′ = tick st set d wants .station in
+    let n = namesRow k (tick st set d wants .answer .runner) in
+    in-time (hard-job k done) (namesRow k) (w .C) (deadline w) n 1 (replies st′ later)
+    (follow-job later st′ k w n 1 (tick-kept st set d wants K) (rw (zero-add n) at (release-tick k w st set d wants K H b))) h
 
 -- after closing, a rested row has no open job: the second half of refusal 14 is never met
 

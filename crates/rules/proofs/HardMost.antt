@@ -8,10 +8,10 @@ use lib.Dec.{eqb}
 use native.Mathlib.Omega.{arith}
 use Rattle.rules.specs.Rows.{Row}
 use Rattle.rules.specs.Station.{Firm, Job, Slot, Station, closed, isOpen, opened}
-use Rattle.rules.specs.Tick.{Answer, Ticked, bit, choose, close, lastAt, lastOf, no-tick, passRows, passed, ranOnce, release, released, shut, tick, ticked}
+use Rattle.rules.specs.Tick.{Answer, choose, close, lastAt, lastOf, opens, passRows, passed, ranOnce, release, released, shut, tick}
 use Rattle.rules.specs.Offer.{Offered, accepted, no-offer, offer}
-use Rattle.rules.specs.Calls.{Call, afterOffer, afterTick, answered, count, doneFlag, namesRow, offer-call, releases, replies, softFlag, tick-call, tickCall}
-use Rattle.rules.specs.Promise.{OnOffered, OnTicked}
+use Rattle.rules.specs.Calls.{Call, Ticked, afterOffer, afterTick, answered, count, doneFlag, namesRow, no-tick, offer-call, releases, replies, softFlag, tick-call, tickCall, ticked}
+use Rattle.rules.specs.Promise.{OnOffered, OnTick, OnTicked}
 use Rattle.rules.proofs.Calls.{on-call}
 use Rattle.rules.proofs.Choose.{IsOpen, best-open, found-open, on-choose}
 use Rattle.rules.proofs.Close.{close-holds}
@@ -20,7 +20,7 @@ use Rattle.rules.proofs.Hard.{left}
 use Rattle.rules.proofs.HardJobs.{RowIs, close-row, names-is}
 use Rattle.rules.proofs.Kept.{Kept, call-kept, offer-kept, tick-kept}
 use Rattle.rules.proofs.Offer.{on-offer}
-use Rattle.rules.proofs.Tick.{Mid, close-mid, on-tick, release-mid}
+use Rattle.rules.proofs.Tick.{Mid, close-mid, on-tick, opensOf, release-mid}
 use Rattle.rules.proofs.Walks.{Holds, holds-all, holds-each, holds-gives, holds-imp, holds-two}
 
 -- the row's job may run n more ticks at most
@@ -75,11 +75,11 @@ run-left k n ss M fs wants H =
     )
 
 most-tick : (k n : ℕ) (st : Station) (set : ℕ) (d wants : Bool) → Kept st → Holds (Left n) k 0 (st .slots)
-    → OnTicked (λ st′ x. bit set k ≡ false → Goes k n st′ x) (tick st set d wants)
-most-tick k n st set d wants K H = on-tick (λ st′ x. bit set k ≡ false → Goes k n st′ x) st set d wants (λ rd e.
+    → OnTick (λ st′ x. opens set (x .notes) k ≡ false → Goes k n st′ x) (tick st set d wants)
+most-tick k n st set d wants K H = on-tick (λ st′ x. opens set (x .notes) k ≡ false → Goes k n st′ x) st set d wants (λ rd e.
     let c = close st d .station in
-    run-left k n (release set (c .slots)) (release-mid set (c .slots) rd (close-mid st d (K .inv))) (c .firms) wants
-    (holds-each (Left n) (Left n) (λ m s. cond (bit set m) (released s) s) k (not-released n (bit set k) e) 0 (c .slots) (close-holds (Left n) (shut-left n) k st d H)))
+    run-left k n (release (opensOf st set d) (c .slots)) (release-mid (opensOf st set d) (c .slots) rd (close-mid st d (K .inv))) (c .firms) wants
+    (holds-each (Left n) (Left n) (λ m s. cond (opensOf st set d m) (released s) s) k (not-released n (opensOf st set d k) e) 0 (c .slots) (close-holds (Left n) (shut-left n) k st d H)))
 
 -- no release counted
 pub none-counted : (b : Bool) (n : ℕ) → cond b 1 0 + n ≡ 0 → (b ≡ false) × (n ≡ 0)
@@ -89,16 +89,16 @@ none-counted false n e = (refl, omega arith)
 follow-most : (cs : List Call) (st : Station) (k n : ℕ) → Kept st → Holds (Left n) k 0 (st .slots) → releases k cs (replies st cs) ≡ 0 → count (namesRow k) (replies st cs) ≤ n
 follow-most [] st k n K H Q = zero-le
 follow-most (tick-call set flags ∷ cs) st k n K H Q =
-    go (tickCall st set flags) (call-kept st set flags K) (on-call (λ st′ x. bit set k ≡ false → Goes k n st′ x) st set flags (most-tick k n st set (doneFlag flags) (softFlag flags) K H)) Q
+    go (tickCall st set flags) (call-kept st set flags K) (on-call (λ st′ x. opens set (x .notes) k ≡ false → Goes k n st′ x) st set flags (most-tick k n st set (doneFlag flags) (softFlag flags) K H)) Q
     (λ st′ n′ K′ H′ Q′. follow-most cs st′ k n′ K′ H′ Q′)
   where
-    go : (T : Ticked) → OnTicked (λ st′ x. Kept st′) T → OnTicked (λ st′ x. bit set k ≡ false → Goes k n st′ x) T
+    go : (T : Ticked) → OnTicked (λ st′ x. Kept st′) T → OnTicked (λ st′ x. opens set (x .notes) k ≡ false → Goes k n st′ x) T
         → releases k (tick-call set flags ∷ cs) (afterTick st T .reply ∷ replies (afterTick st T .station) cs) ≡ 0
         → ((st′ : Station) (n′ : ℕ) → Kept st′ → Holds (Left n′) k 0 (st′ .slots) → releases k cs (replies st′ cs) ≡ 0 → count (namesRow k) (replies st′ cs) ≤ n′)
         → count (namesRow k) (afterTick st T .reply ∷ replies (afterTick st T .station) cs) ≤ n
     go (no-tick x) K′ G Q ih = ih st n K H Q
     go (ticked st′ x) K′ G Q ih =
-        let q = none-counted (bit set k) (releases k cs (replies st′ cs)) Q in
+        let q = none-counted (opens set (x .notes) k) (releases k cs (replies st′ cs)) Q in
         omega (arith, G (q .0) .0, ih st′ (n - namesRow k (x .runner)) K′ (G (q .0) .1) (q .1))
 follow-most (offer-call B d ∷ cs) st k n K H Q =
     go (offer st B d) (offer-kept st B d K) (on-offer (λ st′ t. Holds (Left n) k 0 (st′ .slots)) st B d (λ c. H)) Q (λ st′ K′ H′ Q′. follow-most cs st′ k n K′ H′ Q′)
@@ -115,17 +115,13 @@ now-left w true e s q = omega (arith, ap (λ x. x .C) q)
 now-left w false e s q = absurd (false≢true e)
 
 -- from any kept station: the tick releases row k, and any calls follow
-pub hard-most : (k : ℕ) (w : Row) (st : Station) (set : ℕ) (d wants : Bool) → Kept st → Holds (RowIs w) k 0 (st .slots) → bit set k ≡ true
-    → OnTicked (λ st′ x. (later : List Call) → releases k later (replies st′ later) ≡ 0 → count (namesRow k) (answered x ∷ replies st′ later) ≤ w .C) (tick st set d wants)
-hard-most k w st set d wants K H b = go (tick st set d wants) (tick-kept st set d wants K) first
+pub hard-most : (k : ℕ) (w : Row) (st : Station) (set : ℕ) (d wants : Bool) → Kept st → Holds (RowIs w) k 0 (st .slots)
+    → OnTick (λ st′ x. opens set (x .notes) k ≡ true → (later : List Call) → releases k later (replies st′ later) ≡ 0 → count (namesRow k) (answered x ∷ replies st′ later) ≤ w .C) (tick st set d wants)
+hard-most k w st set d wants K H b later Q =
+    omega (arith, first b .0, follow-most later (tick st set d wants .station) k (w .C - namesRow k (tick st set d wants .answer .runner)) (tick-kept st set d wants K) (first b .1) Q)
   where
-    first : OnTicked (Goes k (w .C)) (tick st set d wants)
-    first = on-tick (Goes k (w .C)) st set d wants (λ rd.
+    first : OnTick (λ st′ x. opens set (x .notes) k ≡ true → Goes k (w .C) st′ x) (tick st set d wants)
+    first = on-tick (λ st′ x. opens set (x .notes) k ≡ true → Goes k (w .C) st′ x) st set d wants (λ rd b.
         let c = close st d .station in
-        run-left k (w .C) (release set (c .slots)) (release-mid set (c .slots) rd (close-mid st d (K .inv))) (c .firms) wants
-        (holds-each (RowIs w) (Left (w .C)) (λ m s. cond (bit set m) (released s) s) k (now-left w (bit set k) b) 0 (c .slots) (close-row k w st d H)))
-
-    go : (T : Ticked) → OnTicked (λ st′ x. Kept st′) T → OnTicked (Goes k (w .C)) T
-        → OnTicked (λ st′ x. (later : List Call) → releases k later (replies st′ later) ≡ 0 → count (namesRow k) (answered x ∷ replies st′ later) ≤ w .C) T
-    go (no-tick x) K′ G = tt
-    go (ticked st′ x) K′ G = λ later Q. omega (arith, G .0, follow-most later st′ k (w .C - namesRow k (x .runner)) K′ (G .1) Q)
+        run-left k (w .C) (release (opensOf st set d) (c .slots)) (release-mid (opensOf st set d) (c .slots) rd (close-mid st d (K .inv))) (c .firms) wants
+        (holds-each (RowIs w) (Left (w .C)) (λ m s. cond (opensOf st set d m) (released s) s) k (now-left w (opensOf st set d k) b) 0 (c .slots) (close-row k w st d H)))

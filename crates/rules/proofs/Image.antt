@@ -10,10 +10,10 @@ use native.Mathlib.Omega.{arith}
 use Rattle.rules.specs.Lists.{All}
 use Rattle.rules.specs.Rows.{Row, tableFault}
 use Rattle.rules.specs.Station.{Firm, Station, rowsOf}
-use Rattle.rules.specs.Tick.{Ticked, bit, choose, close, lastAt, lastOf, lastTo, no-tick, passed, passedFirm, release, released, tick, ticked}
+use Rattle.rules.specs.Tick.{choose, close, lastAt, lastOf, lastTo, passed, passedFirm, release, released, tick}
 use Rattle.rules.specs.Offer.{Offered, accepted, newFirm, no-offer, offer}
 use Rattle.rules.specs.Calls.{Call, Short, doneFlag, offer-call, softFlag, step, tick-call, tickCall}
-use Rattle.rules.specs.Promise.{OnOffered, OnTicked}
+use Rattle.rules.specs.Promise.{OnOffered, OnTick}
 use Rattle.rules.proofs.Calls.{after-offer, after-tick, on-call}
 use Rattle.rules.proofs.Close.{close-good, close-live, close-queue, close-unspent, without-all}
 use Rattle.rules.proofs.Demand.{passed-good}
@@ -22,7 +22,7 @@ use Rattle.rules.proofs.LastRan.{offer-last, tick-last}
 use Rattle.rules.proofs.Offer.{offer-firms, on-offer}
 use Rattle.rules.proofs.Queue.{tick-firms}
 use Rattle.rules.proofs.Rows.{rows-tick}
-use Rattle.rules.proofs.Tick.{on-tick, passed-all, released-good, released-unspent}
+use Rattle.rules.proofs.Tick.{on-tick, opensOf, passed-all, released-good, released-unspent}
 use Rattle.rules.proofs.Tickets.{offer-tickets, tick-tickets}
 use Rattle.rules.proofs.Walks.{all-both, all-last, each-all, map-all}
 
@@ -45,13 +45,13 @@ pub record Image (st : Station) : Type 0 where
 -- each part over a tick
 
 slots-tick : (st : Station) (set : ℕ) (d wants : Bool) → All Good (st .slots) → AllRuns (lastAt (st .last)) 0 (st .slots)
-    → OnTicked (λ st′ x. All Good (st′ .slots) × AllRuns (lastAt (st′ .last)) 0 (st′ .slots)) (tick st set d wants)
+    → OnTick (λ st′ x. All Good (st′ .slots) × AllRuns (lastAt (st′ .last)) 0 (st′ .slots)) (tick st set d wants)
 slots-tick st set d wants G R = on-tick (λ st′ x. All Good (st′ .slots) × AllRuns (lastAt (st′ .last)) 0 (st′ .slots)) st set d wants (λ rd.
     let c = close st d .station in
-    let ss = release set (c .slots) in
+    let ss = release (opensOf st set d) (c .slots) in
     let l = lastOf (choose ss (c .firms) wants) in
-    let g : All Good ss = each-all Good Good (λ k s. cond (bit set k) (released s) s) (λ k s. released-good (bit set k) s) 0 (c .slots) (close-good st d G) in
-    let u : All Unspent ss = each-all (λ s. Good s × Unspent s) Unspent (λ k s. cond (bit set k) (released s) s) (λ k s. released-unspent (bit set k) s) 0 (c .slots)
+    let g : All Good ss = each-all Good Good (λ k s. cond (opensOf st set d k) (released s) s) (λ k s. released-good (opensOf st set d k) s) 0 (c .slots) (close-good st d G) in
+    let u : All Unspent ss = each-all (λ s. Good s × Unspent s) Unspent (λ k s. cond (opensOf st set d k) (released s) s) (λ k s. released-unspent (opensOf st set d k) s) 0 (c .slots)
     (all-both Good Unspent (c .slots) (close-good st d G) (close-unspent st d R)) in
     (each-all Good Good (λ k s. passed (lastAt l k) s) (λ k s. passed-good (lastAt l k) s) 0 ss g, passed-all (lastAt l) 0 ss u))
 
@@ -59,26 +59,29 @@ pass-paid : (b : Bool) (f : Firm) → Live f × Paid f → Paid (passedFirm b f)
 pass-paid true f (l, p) = (p .0, l, p .2)
 pass-paid false f (l, p) = p
 
-paid-tick : (st : Station) (set : ℕ) (d wants : Bool) → FirmsOk (st .last) (st .firms) → All Paid (st .firms) → OnTicked (λ st′ x. All Paid (st′ .firms)) (tick st set d wants)
+paid-tick : (st : Station) (set : ℕ) (d wants : Bool) → FirmsOk (st .last) (st .firms) → All Paid (st .firms) → OnTick (λ st′ x. All Paid (st′ .firms)) (tick st set d wants)
 paid-tick st set d wants F p = on-tick (λ st′ x. All Paid (st′ .firms)) st set d wants (λ rd.
     let c = close st d .station in
-    let l = lastOf (choose (release set (c .slots)) (c .firms) wants) in
+    let l = lastOf (choose (release (opensOf st set d) (c .slots)) (c .firms) wants) in
     map-all (λ f. Live f × Paid f) Paid (λ f. passedFirm (lastTo l (f .ticket)) f) (λ f h. pass-paid (lastTo l (f .ticket)) f h) (c .firms)
     (all-both Live Paid (c .firms) (close-live st d F) (close-queue (All Paid) (without-all Paid) st d p)))
 
-clock-tick : (st : Station) (set : ℕ) (d wants : Bool) → OnTicked (λ st′ x. st′ .clock < 2 ^ 32) (tick st set d wants)
+clock-tick : (st : Station) (set : ℕ) (d wants : Bool) → OnTick (λ st′ x. st′ .clock < 2 ^ 32) (tick st set d wants)
 clock-tick st set d wants = on-tick (λ st′ x. st′ .clock < 2 ^ 32) st set d wants (λ rd. mod-lt (suc (close st d .station .clock)) (omega arith))
 
-pub tick-image : (st : Station) (set : ℕ) (d wants : Bool) → Image st → OnTicked (λ st′ x. Image st′) (tick st set d wants)
-tick-image st set d wants I = go (tick st set d wants) (clock-tick st set d wants) (rows-tick (rowsOf (st .slots)) st set d wants refl) (slots-tick st set d wants (I .good) (I .runs))
-    (tick-firms st set d wants (I .firms)) (paid-tick st set d wants (I .firms) (I .paid)) (tick-tickets st set d wants (I .tickets)) (tick-last st set d wants)
-  where
-    go : (T : Ticked) → OnTicked (λ st′ x. st′ .clock < 2 ^ 32) T → OnTicked (λ st′ x. rowsOf (st′ .slots) ≡ rowsOf (st .slots)) T
-        → OnTicked (λ st′ x. All Good (st′ .slots) × AllRuns (lastAt (st′ .last)) 0 (st′ .slots)) T
-        → OnTicked (λ st′ x. FirmsOk (st′ .last) (st′ .firms)) T → OnTicked (λ st′ x. All Paid (st′ .firms)) T → OnTicked (λ st′ x. Tickets st′) T
-        → OnTicked (λ st′ x. LastRan (st′ .last) (st′ .slots) (st′ .firms)) T → OnTicked (λ st′ x. Image st′) T
-    go (no-tick x) c r s f p t l = tt
-    go (ticked st′ x) c r s f p t l = record { clock-lt = c; table = rw r (I .table); good = s .0; runs = s .1; firms = f; paid = p; tickets = t; last-ran = l }
+pub tick-image : (st : Station) (set : ℕ) (d wants : Bool) → Image st → OnTick (λ st′ x. Image st′) (tick st set d wants)
+tick-image st set d wants I =
+    let s = slots-tick st set d wants (I .good) (I .runs) in
+    record {
+      clock-lt = clock-tick st set d wants;
+      table = rw (rows-tick (rowsOf (st .slots)) st set d wants refl) (I .table);
+      good = s .0;
+      runs = s .1;
+      firms = tick-firms st set d wants (I .firms);
+      paid = paid-tick st set d wants (I .firms) (I .paid);
+      tickets = tick-tickets st set d wants (I .tickets);
+      last-ran = tick-last st set d wants;
+    }
 
 pub offer-image : (st : Station) (B d : ℕ) → B < 2 ^ 16 → Image st → OnOffered (λ st′ t. Image st′) (offer st B d)
 offer-image st B d h16 I = go (offer st B d) same (offer-firms st B d (I .firms)) (offer-tickets st B d (I .tickets)) (offer-last st B d (I .last-ran))

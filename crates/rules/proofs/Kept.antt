@@ -8,10 +8,10 @@ use Rattle.rules.specs.Rows.{Row}
 use Rattle.rules.specs.Bound.{PlannedRow}
 use Rattle.rules.specs.Tables.{Bounds, Planned, RowOk}
 use Rattle.rules.specs.Station.{Station, freshStation}
-use Rattle.rules.specs.Tick.{Ticked, no-tick, tick, ticked}
+use Rattle.rules.specs.Tick.{tick}
 use Rattle.rules.specs.Offer.{Offered, accepted, no-offer, offer}
 use Rattle.rules.specs.Calls.{Call, after, doneFlag, softFlag, tickCall}
-use Rattle.rules.specs.Promise.{OnOffered, OnTicked}
+use Rattle.rules.specs.Promise.{OnOffered, OnTick, OnTicked}
 use Rattle.rules.proofs.Calls.{after-keeps, on-call}
 use Rattle.rules.proofs.Facts.{FirmsOk, Tickets}
 use Rattle.rules.proofs.Fresh.{fresh-inv}
@@ -26,12 +26,8 @@ pub record Kept (st : Station) : Type 0 where
   pub firms : FirmsOk (st .last) (st .firms)
   pub tickets : Tickets st
 
-pub tick-kept : (st : Station) (set : ℕ) (d wants : Bool) → Kept st → OnTicked (λ st′ x. Kept st′) (tick st set d wants)
-tick-kept st set d wants K = join (tick st set d wants) (tick-inv st set d wants (K .inv)) (tick-firms st set d wants (K .firms)) (tick-tickets st set d wants (K .tickets))
-  where
-    join : (T : Ticked) → OnTicked (λ st′ x. Inv st′) T → OnTicked (λ st′ x. FirmsOk (st′ .last) (st′ .firms)) T → OnTicked (λ st′ x. Tickets st′) T → OnTicked (λ st′ x. Kept st′) T
-    join (ticked st′ x) i f t = record { inv = i; firms = f; tickets = t }
-    join (no-tick x) i f t = tt
+pub tick-kept : (st : Station) (set : ℕ) (d wants : Bool) → Kept st → OnTick (λ st′ x. Kept st′) (tick st set d wants)
+tick-kept st set d wants K = record { inv = tick-inv st set d wants (K .inv); firms = tick-firms st set d wants (K .firms); tickets = tick-tickets st set d wants (K .tickets) }
 
 pub offer-kept : (st : Station) (B d : ℕ) → Kept st → OnOffered (λ st′ k. Kept st′) (offer st B d)
 offer-kept st B d K = join (offer st B d) (offer-inv st B d (K .inv)) (offer-firms st B d (K .firms)) (offer-tickets st B d (K .tickets))

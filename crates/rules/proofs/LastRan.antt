@@ -10,11 +10,11 @@ use native.Mathlib.Omega.{arith}
 use Rattle.rules.specs.Station.{Firm, Job, Last, Slot, Station, closed, firm-of, isOpen, nobody, opened, row-at}
 use Rattle.rules.specs.Tick.{choose, close, lastOf, passFirms, passRows, passed, passedFirm, ranOnce, release, tick}
 use Rattle.rules.specs.Offer.{newFirm, offer, queued}
-use Rattle.rules.specs.Promise.{OnOffered, OnTicked}
+use Rattle.rules.specs.Promise.{OnOffered, OnTick}
 use Rattle.rules.proofs.Choose.{IsOpen, best-open, found-open, on-choose}
 use Rattle.rules.proofs.Facts.{FirmRan, HasRun, LastRan}
 use Rattle.rules.proofs.Offer.{on-offer}
-use Rattle.rules.proofs.Tick.{on-tick}
+use Rattle.rules.proofs.Tick.{on-tick, opensOf}
 use Rattle.rules.proofs.Walks.{Holds, holds-each}
 
 ran-open : (b : Bool) → b ≡ true → (s : Slot) → IsOpen s → HasRun (passed b s)
@@ -41,9 +41,9 @@ run-last ss fs wants = on-choose (λ r. LastRan (lastOf r) (passRows (lastOf r) 
     (λ e q best l. row-ran (best .0) ss (best-open best ss l))
     (λ e q. tt)
 
-pub tick-last : (st : Station) (set : ℕ) (d wants : Bool) → OnTicked (λ st′ x. LastRan (st′ .last) (st′ .slots) (st′ .firms)) (tick st set d wants)
+pub tick-last : (st : Station) (set : ℕ) (d wants : Bool) → OnTick (λ st′ x. LastRan (st′ .last) (st′ .slots) (st′ .firms)) (tick st set d wants)
 tick-last st set d wants = on-tick (λ st′ x. LastRan (st′ .last) (st′ .slots) (st′ .firms)) st set d wants (λ rd.
-    run-last (release set (close st d .station .slots)) (close st d .station .firms) wants)
+    run-last (release (opensOf st set d) (close st d .station .slots)) (close st d .station .firms) wants)
 
 queued-ran : (t : ℕ) (f : Firm) (fs : List Firm) → FirmRan t fs → FirmRan t (queued f fs)
 queued-ran t f [] h = absurd h

@@ -1,5 +1,6 @@
 pub mod Bools
 pub mod Walks
+pub mod Bits
 pub mod Ceil
 pub mod Bounds
 pub mod Ranks
@@ -16,6 +17,7 @@ pub mod Hard
 pub mod Close
 pub mod Choose
 pub mod Tick
+pub mod Notes
 pub mod Fresh
 pub mod Claims
 pub mod Queue

@@ -12,14 +12,14 @@ use Rattle.rules.specs.Lists.{All, any, find}
 use Rattle.rules.specs.Station.{Firm, Last, Slot, Station, firm-of, promoted, row-at}
 use Rattle.rules.specs.Tick.{Closed, How, Runner, choose, close, closeFirm, closesAs, done, firm, firm-job, fullOf, hard, lastAt, lastOf, lastTo, passFirms, passRows, passedFirm, release, shutAt, spent, tick, upper, without}
 use Rattle.rules.specs.Calls.{namesTicket}
-use Rattle.rules.specs.Promise.{OnTicked}
+use Rattle.rules.specs.Promise.{OnTick}
 use Rattle.rules.proofs.Bools.{and-true, or-true}
 use Rattle.rules.proofs.Choose.{on-choose}
 use Rattle.rules.proofs.Claims.{pass-demands, ran-demands, shut-demands}
 use Rattle.rules.proofs.Close.{close-live, closes-spent, on-close, without-all}
 use Rattle.rules.proofs.Demand.{demands, min-of, roomLaws}
 use Rattle.rules.proofs.Facts.{FirmsOk, Live}
-use Rattle.rules.proofs.Tick.{Mid, on-tick, turn-found}
+use Rattle.rules.proofs.Tick.{Mid, on-tick, opensOf, turn-found}
 use Rattle.rules.proofs.Walks.{map-all}
 
 -- what a firm job has still to run
@@ -215,7 +215,7 @@ pass-live false f l e = l
 pub run-firms : (ru : Runner) (fs : List Firm) → All Live fs → FirmsOk (lastOf ru) (passFirms (lastOf ru) fs)
 run-firms ru fs a = map-all Live (λ f. lastTo (lastOf ru) (f .ticket) ≡ false → Live f) (passOf (lastOf ru)) (λ f l e. pass-live (lastTo (lastOf ru) (f .ticket)) f l e) fs a
 
-pub tick-firms : (st : Station) (set : ℕ) (d wants : Bool) → FirmsOk (st .last) (st .firms) → OnTicked (λ st′ x. FirmsOk (st′ .last) (st′ .firms)) (tick st set d wants)
+pub tick-firms : (st : Station) (set : ℕ) (d wants : Bool) → FirmsOk (st .last) (st .firms) → OnTick (λ st′ x. FirmsOk (st′ .last) (st′ .firms)) (tick st set d wants)
 tick-firms st set d wants F = on-tick (λ st′ x. FirmsOk (st′ .last) (st′ .firms)) st set d wants (λ rd.
     let c = close st d .station in
-    run-firms (choose (release set (c .slots)) (c .firms) wants) (c .firms) (close-live st d F))
+    run-firms (choose (release (opensOf st set d) (c .slots)) (c .firms) wants) (c .firms) (close-live st d F))

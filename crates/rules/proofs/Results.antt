@@ -12,12 +12,13 @@ use Rattle.rules.specs.Station.{OnFresh, Slot, Station, freshStation}
 use Rattle.rules.specs.Offer.{futureClaim, leaves}
 use Rattle.rules.specs.Calls.{AllShort, Call, after}
 use Rattle.rules.specs.Image.{isImage}
-use Rattle.rules.specs.Promise.{Demand3, DoneIsTold, NeverOpen, TrueTime}
+use Rattle.rules.specs.Promise.{Demand3, DoneIsTold, NeverOpen, Noted, TrueTime}
 use Rattle.rules.proofs.Claims.{endless}
 use Rattle.rules.proofs.Demand3.{demand3, never-open}
 use Rattle.rules.proofs.Fresh.{fresh-rows, on-fresh}
 use Rattle.rules.proofs.ImageIs.{fresh-image, image-after}
 use Rattle.rules.proofs.Kept.{planned-kept}
+use Rattle.rules.proofs.Notes.{notes-are}
 use Rattle.rules.proofs.Tables.{tables}
 use Rattle.rules.proofs.Tick.{told}
 use Rattle.rules.proofs.Time.{fresh-untouched, true-time}
@@ -30,7 +31,11 @@ table-promises = tables
 pub demand-3 : (rs : List Row) → OnFresh (Demand3 rs) (plan rs)
 demand-3 rs = on-fresh (Demand3 rs) rs (λ ps x. demand3 rs (freshStation ps) (planned-kept rs ps x) (fresh-rows ps ∙ x .rows-are))
 
--- of any station, planned or not: a job is reported done only if the done flag says so
+-- of any station, planned or not: what a tick notes, and that it is treated as clear
+pub noted : (st : Station) → Noted st
+noted = notes-are
+
+-- of any station, planned or not: a job is reported done only if the done flag says so, and is not noted
 pub done-is-told : (st : Station) → DoneIsTold st
 done-is-told = told
 
@@ -38,7 +43,7 @@ done-is-told = told
 pub in-true-time : (rs : List Row) → OnFresh TrueTime (plan rs)
 in-true-time rs = on-fresh TrueTime rs (λ ps x. true-time (freshStation ps) (planned-kept rs ps x) (fresh-untouched ps))
 
--- the second half of refusal 14 is never met
+-- the second half of note 14 is never met
 pub never-open-rested : (rs : List Row) → OnFresh NeverOpen (plan rs)
 never-open-rested rs = on-fresh NeverOpen rs (λ ps x. never-open (freshStation ps) (planned-kept rs ps x))
 

@@ -3,7 +3,7 @@ use Prim.Native.Nat.{suc, ℕ, _+_, _<_, _≤_}
 use mathlib.Core.List.{List, _∷_}
 use mathlib.Core.Logic.{inl, inr, _⊎_}
 use native.Mathlib.Omega.{arith}
-use Rattle.rules.specs.Refusals.{Refused}
+use Rattle.rules.specs.Refusals.{Refusal}
 use Rattle.rules.specs.Tick.{Answer, Closing, Runner}
 use Rattle.rules.specs.Calls.{Reply, Reported, answered, count, refused, ticks, took}
 
@@ -22,7 +22,7 @@ module _ (x : Closing) (n : Runner → ℕ) (B D r a : ℕ) where
   took-served t rs (all-run y) = all-run y
   took-served t rs (early y) = early y
 
-  pub refused-served : (y : Refused) (rs : List Reply) → Served x n B D r a rs → Served x n B D r a (refused y ∷ rs)
+  pub refused-served : (y : Refusal) (rs : List Reply) → Served x n B D r a rs → Served x n B D r a (refused y ∷ rs)
   refused-served y rs (reported z) = reported z
   refused-served y rs (all-run z) = all-run z
   refused-served y rs (early z) = early z

@@ -1,19 +1,21 @@
--- A whole tick: what an accepted one has passed, and that it keeps the invariant of the station. Assumes nothing.
+-- A whole tick: that it releases only rows that are ready, and that it keeps the invariant of the station. Assumes nothing.
 use Prim.Native.Nat.{suc, zero-le, ℕ, _+_, _<_, _≤_}
-use mathlib.Core.Bool.{Bool, cond, false, false≢true, not, true, true≢false, _&&_}
+use mathlib.Core.Bool.{Bool, cond, false, false≢true, not, true, true≢false, _&&_, _||_}
 use mathlib.Core.List.{List, [], _∷_}
-use mathlib.Core.Option.{Option, Option·map, none, some}
+use mathlib.Core.Option.{Option, none, some}
 use mathlib.Core.Path.{refl, sym, _∙_, _≡_}
-use borrow.Author.Tests.{eq-eqb, eqb-true, ne-eqb, not-false}
+use borrow.Author.Tests.{eq-eqb, eqb-true, ne-eqb, not-false, not-true}
 use lib.Dec.{eqb}
+use lib.ListN.{getElem?}
+use native.Mathlib.Nat.{add-suc, add-zero, suc-add, zero-add}
 use native.Mathlib.Omega.{arith}
-use Rattle.rules.specs.Lists.{All, each, find, firstOf, orElse, unless}
-use Rattle.rules.specs.Refusals.{atRow, none-ran, not-ready, refusal, unknown-row}
+use Rattle.rules.specs.Lists.{All, each, find}
 use Rattle.rules.specs.Bound.{most}
 use Rattle.rules.specs.Station.{Firm, Job, Slot, Station, closed, firm-of, isOpen, nobody, opened, promoted, rested, row-at, wait}
-use Rattle.rules.specs.Tick.{Answer, Closed, Runner, bit, choose, close, closedAs, closesAs, done, fullAt, fullOf, lastAt, lastOf, no-tick, noneRan, passed, ranOnce, release, released, run, shut, stepped, tick, unknown, unready}
-use Rattle.rules.specs.Promise.{DoneIsTold, OnTicked}
-use Rattle.rules.proofs.Bools.{and-true, cond-none, none-some}
+use Rattle.rules.specs.Tick.{Answer, Closed, Notes, Runner, bit, choose, close, closedAs, closesAs, done, fullAt, fullOf, lastAt, lastOf, noneRan, notesOf, opens, passed, ranOnce, release, released, run, shut, stepped, tick, unready}
+use Rattle.rules.specs.Promise.{DoneIsTold, OnTick}
+use Rattle.rules.proofs.Bits.{set-at}
+use Rattle.rules.proofs.Bools.{and-true, cond-none, none-some, or-false}
 use Rattle.rules.proofs.Choose.{on-choose}
 use Rattle.rules.proofs.Close.{close-good, close-slots, close-unspent, on-close, shut-keeps}
 use Rattle.rules.proofs.Demand.{passed-good}
@@ -25,36 +27,42 @@ not-open : (j : Job) → not (isOpen j) ≡ true → j ≡ closed
 not-open closed e = refl
 not-open (opened r) e = absurd (false≢true e)
 
--- the test of refusal 14 passed over: each released row is rested and has no job open
+-- the test of 14 passed over: each released row is rested and has no job open
 ready-is : (s : Slot) (b : Bool) → (b && not (rested s && not (isOpen (s .job)))) ≡ false → b ≡ true → (wait s ≡ 0) × (s .job ≡ closed)
 ready-is s b e q =
     let both = and-true (rested s) (not (isOpen (s .job))) (not-false (rested s && not (isOpen (s .job))) (rw q at e)) in
     (eqb-true (wait s) 0 (both .0), not-open (s .job) (both .1))
 
-all-ready : (set i : ℕ) (ss : List Slot) → find (unready set) i ss ≡ none → AllReady (bit set) i ss
-all-ready set i [] e = tt
-all-ready set i (s ∷ ss) e =
-    let no = cond-none (unready set i s) i (find (unready set) (suc i) ss) e in
-    (ready-is s (bit set i) (no .0), all-ready set (suc i) ss (no .1))
+-- the rows that a tick releases, of those that it leaves once the last job is closed
+abbrev pub opensOf : Station → ℕ → Bool → ℕ → Bool
+opensOf st set d = opens set (notesOf st set d)
 
--- an accepted tick
+ready-all : (f : ℕ → Bool) (i : ℕ) (ss : List Slot) → ((k : ℕ) (s : Slot) → getElem? ss k ≡ some s → f (i + k) ≡ true → (wait s ≡ 0) × (s .job ≡ closed)) → AllReady f i ss
+ready-all f i [] h = tt
+ready-all f i (s ∷ ss) h = (λ e. h 0 s refl (rw (add-zero i) e), ready-all f (suc i) ss (λ k a q e. h (suc k) a q (rw (add-suc i k, ← suc-add i k) e)))
 
-abbrev pub After : (Station → Answer → Type 0) → Closed → ℕ → Bool → Type 0
-After P c set wants = OnTicked P (stepped c set wants)
+-- what is noted is not released
+noted-ready : (set k : ℕ) (n : Notes) (s : Slot) → bit (n .not-ready) k ≡ unready set k s → opens set n k ≡ true → (wait s ≡ 0) × (s .job ≡ closed)
+noted-ready set k n s q e =
+    let both = and-true (bit set k) (not (bit (n .unknown) k || bit (n .not-ready) k)) e in
+    let clear = or-false (bit (n .unknown) k) (bit (n .not-ready) k) (not-true (bit (n .unknown) k || bit (n .not-ready) k) (both .1)) in
+    ready-is s (bit set k) (sym q ∙ clear .1) (both .0)
+
+all-ready : (st : Station) (set : ℕ) (d : Bool) → AllReady (opensOf st set d) 0 (close st d .station .slots)
+all-ready st set d =
+    ready-all (opensOf st set d) 0 (close st d .station .slots) (λ k s q e.
+    noted-ready set k (notesOf st set d) s (rw (zero-add k) at (set-at (unready set) 0 k (close st d .station .slots) s q)) (rw (zero-add k) at e))
+
+-- a tick
+
+abbrev pub After : (Station → Answer → Type 0) → Closed → ℕ → Notes → Bool → Type 0
+After P c set n wants = OnTick P (stepped c set n wants)
 
 pub on-tick : (P : Station → Answer → Type 0) (st : Station) (set : ℕ) (d wants : Bool)
-    → (AllReady (bit set) 0 (close st d .station .slots) → After P (close st d) set wants)
-    → OnTicked P (tick st set d wants)
+    → (AllReady (opensOf st set d) 0 (close st d .station .slots) → After P (close st d) set (notesOf st set d) wants)
+    → OnTick P (tick st set d wants)
 unfolding tick
-on-tick P st set d wants h =
-    go (firstOf (unknown (st .slots) set) 0 16) (noneRan (st .last) d) (find (unready set) 0 (close st d .station .slots)) refl
-  where
-    go : (a : Option ℕ) (b : Bool) (c : Option ℕ) → find (unready set) 0 (close st d .station .slots) ≡ c
-        → OnTicked P (unless (orElse (Option·map (atRow unknown-row) a) (orElse (cond b (some (refusal none-ran)) none) (Option·map (atRow not-ready) c))) no-tick (stepped (close st d) set wants))
-    go (some k) b c e = tt
-    go none true c e = tt
-    go none false (some k) e = tt
-    go none false none e = h (all-ready set 0 (close st d .station .slots) e)
+on-tick P st set d wants h = h (all-ready st set d)
 
 -- the invariant of the station
 
@@ -104,13 +112,13 @@ pub released-unspent : (b : Bool) (s : Slot) → Good s × Unspent s → Unspent
 released-unspent true s (G, N) r e = let z : 0 ≡ r = cc in omega (arith, G .C-pos)
 released-unspent false s (G, N) r e = N r e
 
-pub release-mid : (set : ℕ) (ss : List Slot) → AllReady (bit set) 0 ss → Mid ss → Mid (release set ss)
-release-mid set ss r M = record {
-  good = each-all Good Good (λ k s. cond (bit set k) (released s) s) (λ k s. released-good (bit set k) s) 0 ss (M .good);
-  unspent = each-all (λ s. Good s × Unspent s) Unspent (λ k s. cond (bit set k) (released s) s) (λ k s. released-unspent (bit set k) s) 0 ss
+pub release-mid : (f : ℕ → Bool) (ss : List Slot) → AllReady f 0 ss → Mid ss → Mid (release f ss)
+release-mid f ss r M = record {
+  good = each-all Good Good (λ k s. cond (f k) (released s) s) (λ k s. released-good (f k) s) 0 ss (M .good);
+  unspent = each-all (λ s. Good s × Unspent s) Unspent (λ k s. cond (f k) (released s) s) (λ k s. released-unspent (f k) s) 0 ss
       (all-both Good Unspent ss (M .good) (M .unspent));
-  plan = each-plan (λ k s. cond (bit set k) (released s) s) (λ k s. released-keeps (bit set k) s) (λ w. 0) 0 ss (M .plan);
-  safe = release-safe (bit set) 0 (λ w. 0) (λ w. 0) (λ w. zero-le) ss (M .good) r (M .safe);
+  plan = each-plan (λ k s. cond (f k) (released s) s) (λ k s. released-keeps (f k) s) (λ w. 0) 0 ss (M .plan);
+  safe = release-safe f 0 (λ w. 0) (λ w. 0) (λ w. zero-le) ss (M .good) r (M .safe);
 }
 
 -- choose
@@ -159,12 +167,12 @@ run-inv st ss r t M = record {
   safe = pass-safe (lastAt (lastOf r)) 0 (λ w. 0) (λ w. 0) (λ w. 0) (λ w. zero-le) (λ w. zero-le) ss (M .good) (M .unspent) (M .plan) t (M .safe);
 }
 
-pub tick-inv : (st : Station) (set : ℕ) (d wants : Bool) → Inv st → OnTicked (λ st′ a. Inv st′) (tick st set d wants)
+pub tick-inv : (st : Station) (set : ℕ) (d wants : Bool) → Inv st → OnTick (λ st′ a. Inv st′) (tick st set d wants)
 tick-inv st set d wants I = on-tick (λ st′ a. Inv st′) st set d wants (λ r.
-    let ss = release set (close st d .station .slots) in
+    let ss = release (opensOf st set d) (close st d .station .slots) in
     run-inv (close st d .station) ss (choose ss (close st d .station .firms) wants)
     (choose-turn ss (close st d .station .firms) wants)
-    (release-mid set (close st d .station .slots) r (close-mid st d I)))
+    (release-mid (opensOf st set d) (close st d .station .slots) r (close-mid st d I)))
 
 -- a job is reported done only where the done flag says so
 
@@ -174,6 +182,6 @@ closes-done false true e = let z : _≡_ {A = ℕ} 0 1 = cc in absurd (omega ari
 closes-done false false e = absurd (none-some e)
 
 pub told : (st : Station) → DoneIsTold st
-told st set d wants = on-tick (λ st′ x. closedAs (x .closing) ≡ some done → d ≡ true) st set d wants (λ rd.
-    on-close (λ c. closedAs (c .closing) ≡ some done → d ≡ true) st d (λ s e. absurd (none-some e))
-    (λ i how l q e. closes-done d (fullAt i (st .slots)) (q ∙ e)) (λ t how l q e. closes-done d (fullOf t (st .firms)) (q ∙ e)))
+told st set d wants = on-tick (λ st′ x. closedAs (x .closing) ≡ some done → (d ≡ true) × (x .notes .none-ran ≡ false)) st set d wants (λ rd.
+    on-close (λ c. closedAs (c .closing) ≡ some done → (d ≡ true) × (noneRan (st .last) d ≡ false)) st d (λ s e. absurd (none-some e))
+    (λ i how l q e. (closes-done d (fullAt i (st .slots)) (q ∙ e), rw l)) (λ t how l q e. (closes-done d (fullOf t (st .firms)) (q ∙ e), rw l)))

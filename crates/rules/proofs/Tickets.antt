@@ -11,13 +11,13 @@ use Rattle.rules.specs.Lists.{All}
 use Rattle.rules.specs.Station.{Firm, Last, Slot, Station, firm-of, nobody, row-at}
 use Rattle.rules.specs.Tick.{choose, close, lastOf, passFirms, release, tick, without}
 use Rattle.rules.specs.Offer.{newFirm, offer, queued}
-use Rattle.rules.specs.Promise.{OnOffered, OnTicked}
+use Rattle.rules.specs.Promise.{OnOffered, OnTick}
 use Rattle.rules.proofs.Choose.{on-choose}
 use Rattle.rules.proofs.Close.{close-next, on-close}
 use Rattle.rules.proofs.Facts.{FirstIs, Tickets, TicketsTo}
 use Rattle.rules.proofs.Offer.{on-offer}
 use Rattle.rules.proofs.Queue.{Other}
-use Rattle.rules.proofs.Tick.{on-tick}
+use Rattle.rules.proofs.Tick.{on-tick, opensOf}
 
 -- a ticket's distance to the next one tells tickets apart
 apart : (next d c : ℕ) → next < 2 ^ 32 → d ≤ 8 → c < d → (next + (2 ^ 32 - d)) % 2 ^ 32 ≡ (next + (2 ^ 32 - c)) % 2 ^ 32 → ⊥
@@ -70,16 +70,16 @@ chosen-first : (ss : List Slot) (fs : List Firm) (wants : Bool) → FirstIs (las
 chosen-first ss fs wants = on-choose (λ r. FirstIs (lastOf r) (passFirms (lastOf r) fs)) ss fs wants
     (λ k e. tt) (λ e f more q. rw q refl) (λ e q. tt) (λ e q best l. tt) (λ e q. tt)
 
-pub tick-tickets : (st : Station) (set : ℕ) (d wants : Bool) → Tickets st → OnTicked (λ st′ x. Tickets st′) (tick st set d wants)
+pub tick-tickets : (st : Station) (set : ℕ) (d wants : Bool) → Tickets st → OnTick (λ st′ x. Tickets st′) (tick st set d wants)
 tick-tickets st set d wants T = on-tick (λ st′ x. Tickets st′) st set d wants (λ rd.
     let c = close st d .station in
     let q = close-tickets st d T in
-    let l = lastOf (choose (release set (c .slots)) (c .firms) wants) in
+    let l = lastOf (choose (release (opensOf st set d) (c .slots)) (c .firms) wants) in
     record {
       few = rw (length-pass l (c .firms)) (q .0);
       next-lt = rw (close-next st d) (T .next-lt);
       to-next = rw (close-next st d) (pass-tickets (st .next) l (c .firms) (q .1));
-      first = chosen-first (release set (c .slots)) (c .firms) wants;
+      first = chosen-first (release (opensOf st set d) (c .slots)) (c .firms) wants;
     })
 
 -- an offer

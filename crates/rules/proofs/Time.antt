@@ -12,17 +12,17 @@ use native.Mathlib.Omega.{arith}
 use Rattle.rules.specs.Lists.{All}
 use Rattle.rules.specs.Bound.{PlannedRow}
 use Rattle.rules.specs.Station.{Job, Slot, Station, closed, freshSlot, freshStation, hold, isOpen, rested, wait}
-use Rattle.rules.specs.Tick.{Ticked, bit, choose, close, lastAt, lastOf, no-tick, passed, ranOnce, release, released, shut, tick, ticked}
+use Rattle.rules.specs.Tick.{choose, close, lastAt, lastOf, opens, passed, ranOnce, release, released, shut, tick}
 use Rattle.rules.specs.Offer.{Offered, accepted, no-offer, offer}
-use Rattle.rules.specs.Calls.{Call, acceptances, after, afterOffer, afterTick, doneFlag, lastRelease, offer-call, replies, softFlag, tick-call, tickCall, ticks}
-use Rattle.rules.specs.Promise.{OnOffered, OnTicked, TrueSlot, TrueTime}
+use Rattle.rules.specs.Calls.{Call, Ticked, acceptances, after, afterOffer, afterTick, doneFlag, lastRelease, no-tick, offer-call, replies, softFlag, tick-call, tickCall, ticked, ticks}
+use Rattle.rules.specs.Promise.{OnOffered, OnTick, OnTicked, TrueSlot, TrueTime}
 use Rattle.rules.proofs.Bools.{not-true-is}
 use Rattle.rules.proofs.Calls.{on-call}
 use Rattle.rules.proofs.Close.{close-clock, close-good, close-next, close-slots}
 use Rattle.rules.proofs.Facts.{Good}
 use Rattle.rules.proofs.Kept.{Kept, kept-after}
 use Rattle.rules.proofs.Offer.{on-offer}
-use Rattle.rules.proofs.Tick.{on-tick, released-good}
+use Rattle.rules.proofs.Tick.{on-tick, opensOf, released-good}
 use Rattle.rules.proofs.Walks.{AllAt, at-all, at-elem, each-all, each-at}
 
 -- a row at true tick now, its last release at a tick, if ever
@@ -79,24 +79,24 @@ one-more c n e = omega arith
 
 -- where a tick chooses
 chosen-stand : (now : ℕ) (o : ℕ → Option ℕ) (st : Station) (set : ℕ) (d : Bool) → AllAt (λ k s. Stands now (o k) s) 0 (st .slots)
-    → AllAt (λ k s. Stands now (cond (bit set k) (some now) (o k)) s) 0 (release set (close st d .station .slots))
+    → AllAt (λ k s. Stands now (cond (opensOf st set d k) (some now) (o k)) s) 0 (release (opensOf st set d) (close st d .station .slots))
 chosen-stand now o st set d x =
-    each-at (λ k s. Stands now (o k) s) (λ k s. Stands now (cond (bit set k) (some now) (o k)) s) (λ k s. cond (bit set k) (released s) s)
-    (λ k s. release-stands now (o k) (bit set k) s) 0 (close st d .station .slots)
+    each-at (λ k s. Stands now (o k) s) (λ k s. Stands now (cond (opensOf st set d k) (some now) (o k)) s) (λ k s. cond (opensOf st set d k) (released s) s)
+    (λ k s. release-stands now (o k) (opensOf st set d k) s) 0 (close st d .station .slots)
     (close-slots (AllAt (λ k s. Stands now (o k) s) 0)
     (λ i ss. each-at (λ k s. Stands now (o k) s) (λ k s. Stands now (o k) s) (λ k s. cond (eqb k i) (shut s) s) (λ k s. shut-stands now (o k) (eqb k i) s) 0 ss) st d x)
 
 at-tick : (now accs : ℕ) (o : ℕ → Option ℕ) (st : Station) (set : ℕ) (d wants : Bool) → At now accs o st
-    → OnTicked (λ st′ x. At (suc now) accs (λ k. cond (bit set k) (some now) (o k)) st′) (tick st set d wants)
-at-tick now accs o st set d wants A = on-tick (λ st′ x. At (suc now) accs (λ k. cond (bit set k) (some now) (o k)) st′) st set d wants (λ rd.
+    → OnTick (λ st′ x. At (suc now) accs (λ k. cond (opens set (x .notes) k) (some now) (o k)) st′) (tick st set d wants)
+at-tick now accs o st set d wants A = on-tick (λ st′ x. At (suc now) accs (λ k. cond (opens set (x .notes) k) (some now) (o k)) st′) st set d wants (λ rd.
     let c = close st d .station in
-    let ss = release set (c .slots) in
+    let ss = release (opensOf st set d) (c .slots) in
     let l = lastOf (choose ss (c .firms) wants) in
     record {
       clock-is = one-more (c .clock) now (close-clock st d ∙ A .clock-is);
       next-is = close-next st d ∙ A .next-is;
-      rows-stand = each-at (λ k s. Stands now (cond (bit set k) (some now) (o k)) s) (λ k s. Stands (suc now) (cond (bit set k) (some now) (o k)) s) (λ k s. passed (lastAt l k) s)
-          (λ k s. pass-stands now (cond (bit set k) (some now) (o k)) (lastAt l k) s) 0 ss (chosen-stand now o st set d (A .rows-stand));
+      rows-stand = each-at (λ k s. Stands now (cond (opensOf st set d k) (some now) (o k)) s) (λ k s. Stands (suc now) (cond (opensOf st set d k) (some now) (o k)) s) (λ k s. passed (lastAt l k) s)
+          (λ k s. pass-stands now (cond (opensOf st set d k) (some now) (o k)) (lastAt l k) s) 0 ss (chosen-stand now o st set d (A .rows-stand));
     })
 
 at-offer : (now accs : ℕ) (o : ℕ → Option ℕ) (st : Station) (B d : ℕ) → At now accs o st → OnOffered (λ st′ t. At now (suc accs) o st′) (offer st B d)
@@ -108,16 +108,16 @@ at-after : (cs : List Call) (now accs : ℕ) (o : ℕ → Option ℕ) (st : Stat
     → At (now + ticks (replies st cs)) (accs + acceptances (replies st cs)) (λ k. lastRelease k now (o k) cs (replies st cs)) (after st cs)
 at-after [] now accs o st A = rw (add-zero now, add-zero accs) A
 at-after (tick-call set flags ∷ cs) now accs o st A =
-    go (tickCall st set flags) (on-call (λ st′ x. At (suc now) accs (λ k. cond (bit set k) (some now) (o k)) st′) st set flags (at-tick now accs o st set (doneFlag flags) (softFlag flags) A))
+    go (tickCall st set flags) (on-call (λ st′ x. At (suc now) accs (λ k. cond (opens set (x .notes) k) (some now) (o k)) st′) st set flags (at-tick now accs o st set (doneFlag flags) (softFlag flags) A))
     (λ now′ o′ st′ A′. at-after cs now′ accs o′ st′ A′)
   where
-    go : (T : Ticked) → OnTicked (λ st′ x. At (suc now) accs (λ k. cond (bit set k) (some now) (o k)) st′) T
+    go : (T : Ticked) → OnTicked (λ st′ x. At (suc now) accs (λ k. cond (opens set (x .notes) k) (some now) (o k)) st′) T
         → ((now′ : ℕ) (o′ : ℕ → Option ℕ) (st′ : Station) → At now′ accs o′ st′
         → At (now′ + ticks (replies st′ cs)) (accs + acceptances (replies st′ cs)) (λ k. lastRelease k now′ (o′ k) cs (replies st′ cs)) (after st′ cs))
         → At (now + ticks (afterTick st T .reply ∷ replies (afterTick st T .station) cs)) (accs + acceptances (afterTick st T .reply ∷ replies (afterTick st T .station) cs))
         (λ k. lastRelease k now (o k) (tick-call set flags ∷ cs) (afterTick st T .reply ∷ replies (afterTick st T .station) cs)) (after (afterTick st T .station) cs)
     go (no-tick x) h ih = ih now o st A
-    go (ticked st′ x) h ih = let e : now + (1 + ticks (replies st′ cs)) ≡ suc now + ticks (replies st′ cs) = omega arith in rw e (ih (suc now) (λ k. cond (bit set k) (some now) (o k)) st′ h)
+    go (ticked st′ x) h ih = let e : now + (1 + ticks (replies st′ cs)) ≡ suc now + ticks (replies st′ cs) = omega arith in rw e (ih (suc now) (λ k. cond (opens set (x .notes) k) (some now) (o k)) st′ h)
 at-after (offer-call B d ∷ cs) now accs o st A = go (offer st B d) (at-offer now accs o st B d A) (λ accs′ st′ A′. at-after cs now accs′ o st′ A′)
   where
     go : (q : Offered) → OnOffered (λ st′ t. At now (suc accs) o st′) q
@@ -146,8 +146,8 @@ true-time start K U = record {
   chosen-are = λ before set d k s e.
       let st = after start before in
       let now = ticks (replies start before) in
-      elem now (λ k. cond (bit set k) (some now) (lastRelease k 0 none before (replies start before))) (release set (close st d .station .slots))
-      (each-all Good Good (λ k s. cond (bit set k) (released s) s) (λ k s. released-good (bit set k) s) 0 (close st d .station .slots) (close-good st d (kept-after before start K .inv .good)))
+      elem now (λ k. cond (opensOf st set d k) (some now) (lastRelease k 0 none before (replies start before))) (release (opensOf st set d) (close st d .station .slots))
+      (each-all Good Good (λ k s. cond (opensOf st set d k) (released s) s) (λ k s. released-good (opensOf st set d k) s) 0 (close st d .station .slots) (close-good st d (kept-after before start K .inv .good)))
       (chosen-stand now (λ k. lastRelease k 0 none before (replies start before)) st set d (A before .rows-stand)) k s e;
 }
   where

@@ -8,10 +8,10 @@ use lib.Dec.{eqb}
 use native.Mathlib.Omega.{arith}
 use Rattle.rules.specs.Lists.{All, total}
 use Rattle.rules.specs.Station.{Firm, Last, Slot, Station, firm-of, nobody, row-at}
-use Rattle.rules.specs.Tick.{Ticked, choose, close, lastOf, lastTo, no-tick, passFirms, passedFirm, release, tick, ticked, without}
+use Rattle.rules.specs.Tick.{choose, close, lastOf, lastTo, passFirms, passedFirm, release, tick, without}
 use Rattle.rules.specs.Offer.{Offered, accepted, newFirm, no-offer, offer, queued}
-use Rattle.rules.specs.Calls.{Call, afterOffer, afterTick, count, doneFlag, namesTicket, offer-call, replies, returns, softFlag, tick-call, tickCall}
-use Rattle.rules.specs.Promise.{OnOffered, OnTicked}
+use Rattle.rules.specs.Calls.{Call, Ticked, afterOffer, afterTick, count, doneFlag, namesTicket, no-tick, offer-call, replies, returns, softFlag, tick-call, tickCall, ticked}
+use Rattle.rules.specs.Promise.{OnOffered, OnTick, OnTicked}
 use Rattle.rules.proofs.Calls.{on-call}
 use Rattle.rules.proofs.Choose.{on-choose}
 use Rattle.rules.proofs.Close.{close-live, close-queue}
@@ -20,7 +20,7 @@ use Rattle.rules.proofs.HardMost.{none-counted}
 use Rattle.rules.proofs.Kept.{Kept, call-kept, offer-kept}
 use Rattle.rules.proofs.Offer.{on-offer}
 use Rattle.rules.proofs.Queue.{Other, rest}
-use Rattle.rules.proofs.Tick.{on-tick}
+use Rattle.rules.proofs.Tick.{on-tick, opensOf}
 use Rattle.rules.proofs.Tickets.{next-new}
 
 -- what the queued jobs of ticket t may still run
@@ -63,9 +63,9 @@ ran-due t ss fs wants a = on-choose (λ r. due t (passFirms (lastOf r) fs) + nam
         omega (arith, ran-due-one (eqb (f .ticket) t) (eqb (f .ticket) (f .ticket)) (eq-eqb (f .ticket) (f .ticket) refl) f l, pass-due t (firm-of (f .ticket)) more)
 
 due-tick : (t n : ℕ) (st : Station) (set : ℕ) (d wants : Bool) → Kept st → due t (st .firms) ≤ n
-    → OnTicked (λ st′ x. due t (st′ .firms) + namesTicket t (x .runner) ≤ n) (tick st set d wants)
+    → OnTick (λ st′ x. due t (st′ .firms) + namesTicket t (x .runner) ≤ n) (tick st set d wants)
 due-tick t n st set d wants K h = on-tick (λ st′ x. due t (st′ .firms) + namesTicket t (x .runner) ≤ n) st set d wants (λ rd.
-    omega (arith, ran-due t (release set (close st d .station .slots)) (close st d .station .firms) wants (close-live st d (K .firms)), close-due t n st d h))
+    omega (arith, ran-due t (release (opensOf st set d) (close st d .station .slots)) (close st d .station .firms) wants (close-live st d (K .firms)), close-due t n st d h))
 
 queued-due : (t : ℕ) (f : Firm) (fs : List Firm) → due t (queued f fs) ≡ due t fs + cond (eqb (f .ticket) t) (rest f) 0
 queued-due t f [] = omega arith

@@ -5,12 +5,11 @@ use mathlib.Core.List.{List, [], _∷_}
 use mathlib.Core.Logic.{inl}
 use mathlib.Core.Path.{_≡_}
 use native.Mathlib.Omega.{arith}
-use Rattle.rules.specs.Refusals.{refusal}
 use Rattle.rules.specs.Station.{Station}
-use Rattle.rules.specs.Tick.{Answer, Ticked, bit, close, done, firm-job, no-tick, release, tick, ticked}
+use Rattle.rules.specs.Tick.{Answer, close, done, firm-job, notesOf, release, tick}
 use Rattle.rules.specs.Offer.{Offered, accepted, no-offer, offer}
-use Rattle.rules.specs.Calls.{Call, Reply, afterOffer, afterTick, doneFlag, namesTicket, offer-call, replies, softFlag, tick-call, tickCall}
-use Rattle.rules.specs.Promise.{OnOffered, OnTicked}
+use Rattle.rules.specs.Calls.{Call, Reply, Ticked, afterOffer, afterTick, doneFlag, namesTicket, no-tick, offer-call, replies, softFlag, tick-call, tickCall, ticked}
+use Rattle.rules.specs.Promise.{OnOffered, OnTick, OnTicked}
 use Rattle.rules.proofs.Calls.{on-call}
 use Rattle.rules.proofs.Claims.{release-demands}
 use Rattle.rules.proofs.Close.{close-live}
@@ -20,7 +19,7 @@ use Rattle.rules.proofs.Kept.{Kept, call-kept, offer-kept}
 use Rattle.rules.proofs.Offer.{offer-keeps}
 use Rattle.rules.proofs.Queue.{Fate, Held, close-held, goes-on, is-done, is-spent, room-end, room-le, run-held}
 use Rattle.rules.proofs.Served.{Served, all-run, answer-served, early, refused-served, reported, took-served}
-use Rattle.rules.proofs.Tick.{After, close-mid, on-tick, release-mid}
+use Rattle.rules.proofs.Tick.{After, close-mid, on-tick, opensOf, release-mid}
 use Rattle.rules.proofs.Tickets.{next-new}
 
 -- the upload of ticket t, δ ticks before its deadline
@@ -34,18 +33,18 @@ data Next (t B r δ : ℕ) (st : Station) (a : Answer) : Type 0 where
   onward : (δ′ r′ : ℕ) → δ ≡ suc δ′ → r′ ≤ r + namesTicket t (a .runner) → Held t B r′ δ′ (st .slots) (st .firms) → Next t B r δ st a
 
 held-tick : (t B r δ : ℕ) (st : Station) (set : ℕ) (d wants : Bool) → Kept st → Held t B r δ (st .slots) (st .firms)
-    → OnTicked (Next t B r δ) (tick st set d wants)
+    → OnTick (Next t B r δ) (tick st set d wants)
 held-tick t B r δ st set d wants K H = on-tick (Next t B r δ) st set d wants (λ rd. go rd (close-held t B r δ st d H))
   where
-    go : AllReady (bit set) 0 (close st d .station .slots) → Fate t B r δ (close st d) → After (Next t B r δ) (close st d) set wants
+    go : AllReady (opensOf st set d) 0 (close st d .station .slots) → Fate t B r δ (close st d) → After (Next t B r δ) (close st d) set (notesOf st set d) wants
     go rd (is-done e) = now-done e
     go rd (is-spent e) = now-spent e
     go rd (goes-on H) =
         let M = close-mid st d (K .inv) in
-        let ss = release set (close st d .station .slots) in
+        let ss = release (opensOf st set d) (close st d .station .slots) in
         let fs = close st d .station .firms in
-        let H′ : Held t B r δ ss fs = room-le t B r δ (demands min-of (close st d .station .slots) δ) (demands min-of ss δ) (release-demands min-of roomLaws (bit set) 0 (close st d .station .slots) (M .good) rd δ) fs H in
-        let O = run-held t B r δ ss fs wants (release-mid set (close st d .station .slots) rd M) (close-live st d (K .firms)) H′ in
+        let H′ : Held t B r δ ss fs = room-le t B r δ (demands min-of (close st d .station .slots) δ) (demands min-of ss δ) (release-demands min-of roomLaws (opensOf st set d) 0 (close st d .station .slots) (M .good) rd δ) fs H in
+        let O = run-held t B r δ ss fs wants (release-mid (opensOf st set d) (close st d .station .slots) rd M) (close-live st d (K .firms)) H′ in
         onward (O .δ′) (O .r′) (O .fell) (O .counted) (O .held)
 
 pub follow-upload : (cs : List Call) (st : Station) (t B r δ : ℕ) → Kept st → Held t B r δ (st .slots) (st .firms) → Upload t B r δ (replies st cs)
@@ -75,5 +74,5 @@ follow-upload (offer-call B′ d ∷ cs) st t B r δ K H =
     go : (o : Offered) → OnOffered (λ st′ k. Kept st′) o → OnOffered (λ st′ k. Held t B r δ (st′ .slots) (st′ .firms)) o
         → ((st′ : Station) → Kept st′ → Held t B r δ (st′ .slots) (st′ .firms) → Upload t B r δ (replies st′ cs))
         → Upload t B r δ (afterOffer st o .reply ∷ replies (afterOffer st o .station) cs)
-    go (no-offer why) K′ H′ ih = refused-served (firm-job t done) (namesTicket t) B δ r 0 (refusal why) (replies st cs) (ih st K H)
+    go (no-offer why) K′ H′ ih = refused-served (firm-job t done) (namesTicket t) B δ r 0 why (replies st cs) (ih st K H)
     go (accepted st′ k) K′ H′ ih = took-served (firm-job t done) (namesTicket t) B δ r 0 k (replies st′ cs) (ih st′ K′ H′)

@@ -7,9 +7,9 @@ use mathlib.Core.Option.{Option, some}
 use mathlib.Core.Path.{_≡_}
 use lib.Dec.{eqb, leb}
 use Rattle.rules.specs.Lists.{All}
-use Rattle.rules.specs.Refusals.{unknown-flag, Refused, refusal}
+use Rattle.rules.specs.Refusals.{Refusal, unknown-flag}
 use Rattle.rules.specs.Station.{Station}
-use Rattle.rules.specs.Tick.{Runner, hard, firm, soft, idle, Closing, Answer, bit, Ticked, ticked, no-tick, tick}
+use Rattle.rules.specs.Tick.{Runner, hard, firm, soft, idle, Closing, Answer, bit, opens, Outcome, tick}
 use Rattle.rules.specs.Offer.{Offered, accepted, no-offer, offer}
 
 -- a tick with its release set and flags; an offer with its budget B and deadline d
@@ -29,15 +29,24 @@ softFlag flags = bit flags 1
 abbrev pub otherFlag : ℕ → Bool
 otherFlag flags = leb 4 flags
 
+-- the station after an accepted tick with the answer; or the refusal
+pub data Ticked : Type 0 where
+  ticked : Station → Answer → Ticked
+  no-tick : Refusal → Ticked
+
+-- a tick is stepped
+abbrev pub asTicked : Outcome → Ticked
+asTicked o = ticked (o .station) (o .answer)
+
 -- a tick call: 20, then the tick
 abbrev pub tickCall : Station → ℕ → ℕ → Ticked
-tickCall st set flags = cond (otherFlag flags) (no-tick (refusal unknown-flag)) (tick st set (doneFlag flags) (softFlag flags))
+tickCall st set flags = cond (otherFlag flags) (no-tick unknown-flag) (asTicked (tick st set (doneFlag flags) (softFlag flags)))
 
 -- what the caller gets: an answer, a ticket, or a refusal
 pub data Reply : Type 0 where
   answered : Answer → Reply
   took : (ticket : ℕ) → Reply
-  refused : Refused → Reply
+  refused : Refusal → Reply
 
 -- a station after a call, and the reply
 pub record Stepped : Type 0 where
@@ -49,12 +58,12 @@ pub record Stepped : Type 0 where
 -- a tick
 abbrev pub afterTick : Station → Ticked → Stepped
 afterTick st (ticked st′ a) = record { station = st′; reply = answered a }
-afterTick st (no-tick x) = record { station = st; reply = refused x }
+afterTick st (no-tick why) = record { station = st; reply = refused why }
 
 -- an offer
 abbrev pub afterOffer : Station → Offered → Stepped
 afterOffer st (accepted st′ t) = record { station = st′; reply = took t }
-afterOffer st (no-offer why) = record { station = st; reply = refused (refusal why) }
+afterOffer st (no-offer why) = record { station = st; reply = refused why }
 
 -- one call
 abbrev pub step : Station → Call → Stepped
@@ -78,7 +87,7 @@ abbrev pub count : (Runner → ℕ) → List Reply → ℕ
 count n [] = 0
 count n (answered a ∷ rs) = n (a .runner) + count n rs
 count n (took t ∷ rs) = count n rs
-count n (refused x ∷ rs) = count n rs
+count n (refused why ∷ rs) = count n rs
 
 -- the ticks stepped
 abbrev pub ticks : List Reply → ℕ
@@ -103,7 +112,7 @@ abbrev pub Reported : Closing → List Reply → Type 0
 Reported x [] = ⊥
 Reported x (answered a ∷ rs) = (a .closing ≡ x) ⊎ Reported x rs
 Reported x (took t ∷ rs) = Reported x rs
-Reported x (refused y ∷ rs) = Reported x rs
+Reported x (refused why ∷ rs) = Reported x rs
 
 -- acceptances of offers: all of them, and those that return the ticket t
 
@@ -112,36 +121,36 @@ abbrev pub acceptances : List Reply → ℕ
 acceptances [] = 0
 acceptances (answered a ∷ rs) = acceptances rs
 acceptances (took t ∷ rs) = suc (acceptances rs)
-acceptances (refused x ∷ rs) = acceptances rs
+acceptances (refused why ∷ rs) = acceptances rs
 
 -- those that return t
 abbrev pub returns : ℕ → List Reply → ℕ
 returns t [] = 0
 returns t (answered a ∷ rs) = returns t rs
 returns t (took u ∷ rs) = cond (eqb u t) 1 0 + returns t rs
-returns t (refused x ∷ rs) = returns t rs
+returns t (refused why ∷ rs) = returns t rs
 
--- the call is a tick that asks for a release of the row at k
-abbrev pub asksFor : ℕ → Call → Bool
-asksFor k (tick-call set flags) = bit set k
-asksFor k (offer-call B d) = false
+-- the call is a tick, so answered, that releases the row at k
+abbrev pub releasesRow : ℕ → Call → Answer → Bool
+releasesRow k (tick-call set flags) a = opens set (a .notes) k
+releasesRow k (offer-call B d) a = false
 
 -- The true tick of the last release of the row at k, if there was one: calls with their replies, made from true tick now on,
 -- when the last release was last. Only an accepted tick releases, and only an accepted tick moves time.
 abbrev pub lastRelease : ℕ → ℕ → Option ℕ → List Call → List Reply → Option ℕ
 lastRelease k now last [] rs = last
 lastRelease k now last (c ∷ cs) [] = last
-lastRelease k now last (c ∷ cs) (answered a ∷ rs) = lastRelease k (suc now) (cond (asksFor k c) (some now) last) cs rs
+lastRelease k now last (c ∷ cs) (answered a ∷ rs) = lastRelease k (suc now) (cond (releasesRow k c a) (some now) last) cs rs
 lastRelease k now last (c ∷ cs) (took t ∷ rs) = lastRelease k now last cs rs
-lastRelease k now last (c ∷ cs) (refused x ∷ rs) = lastRelease k now last cs rs
+lastRelease k now last (c ∷ cs) (refused why ∷ rs) = lastRelease k now last cs rs
 
 -- the releases of the row at k
 abbrev pub releases : ℕ → List Call → List Reply → ℕ
 releases k [] rs = 0
 releases k (c ∷ cs) [] = 0
-releases k (c ∷ cs) (answered a ∷ rs) = cond (asksFor k c) 1 0 + releases k cs rs
+releases k (c ∷ cs) (answered a ∷ rs) = cond (releasesRow k c a) 1 0 + releases k cs rs
 releases k (c ∷ cs) (took t ∷ rs) = releases k cs rs
-releases k (c ∷ cs) (refused x ∷ rs) = releases k cs rs
+releases k (c ∷ cs) (refused why ∷ rs) = releases k cs rs
 
 -- the numbers of the call have the widths that C hands in
 abbrev pub Short : Call → Type 0

@@ -1,16 +1,16 @@
--- An example of every refusal, and of the order in which document 01 asks: a companion to the figures. Assumes nothing.
+-- An example of every refusal and note, and of the order in which document 01 asks: a companion to the figures. Assumes nothing.
 -- Rows are counted from 1 here, as in document 01, and 0 stands for no row.
 use Prim.Native.Nat.{suc, zero, ℕ}
-use mathlib.Core.Bool.{not}
+use mathlib.Core.Bool.{Bool, false, not}
 use mathlib.Core.List.{List, [], map, _++_, _∷_}
-use mathlib.Core.Option.{none}
+use mathlib.Core.Option.{none, some}
 use mathlib.Core.Path.{_≡_}
 use lib.Dec.{eqb}
 use lib.ListN.{length, replicate}
 use Rattle.rules.specs.Lists.{any, firstOf}
 use Rattle.rules.specs.File.{marginBytes, rowBytes}
 use Rattle.rules.specs.Station.{Job, Last, Station, closed, firm-of, freshSlot, freshStation, nobody, opened, row-at, withJob}
-use Rattle.rules.specs.Tick.{done, hard, hard-job, lower, run, soft, spent}
+use Rattle.rules.specs.Tick.{done, hard, hard-job, idle, lower, nothing, run, soft, spent, upper}
 use Rattle.rules.specs.Calls.{after, offer-call, tick-call}
 use Rattle.rules.specs.Figures.{AllHold, Asked, Figures, Found, R-and-U, atClock2, block-of, call-on, event-of, file-of, output-of, passes, ran, refuses, row, shows, stationA, tableA, ticket, values, withMargin}
 
@@ -127,19 +127,20 @@ refusals =
     ∷ (block-of (queueOf ((0, 3, 3) ∷ (1, 1, 0) ∷ []) 2 nobody), refuses 11 0)
     ∷ (block-of (queueOf ((0, 3, 1) ∷ (1, 1, 1) ∷ []) 2 (firm-of 1)), refuses 11 0)
     ∷ (block-of (queueOf ((0, 3, 3) ∷ (1, 1, 0) ∷ []) 2 (firm-of 0)), passes)
-    -- 12, the lowest bit, before 13 and before 14
-    ∷ (call-on stationA (tick-call 0x0004 0), refuses 12 3)
-    ∷ (call-on stationA (tick-call 0x8000 0), refuses 12 16)
-    ∷ (call-on stationA (tick-call 0x8004 1), refuses 12 3)
-    ∷ (call-on atClock2 (tick-call 0x0005 0), refuses 12 3)
-    -- 13: there was no tick; soft work ran. Before 14
-    ∷ (call-on stationA (tick-call 0 1), refuses 13 0)
-    ∷ (call-on atClock2 (tick-call 0x0001 1), refuses 13 0)
-    -- 14, the lowest bit; a rested row with a job still open. Asked after the closing
-    ∷ (call-on atClock2 (tick-call 0x0003 0), refuses 14 1)
-    ∷ (call-on atClock2 (tick-call 0x0002 0), refuses 14 2)
-    ∷ (call-on (oneRow 2 8 (opened 1) nobody) (tick-call 0x0001 0), refuses 14 1)
-    ∷ (call-on (oneRow 2 8 (opened 2) (row-at 0)) (tick-call 0x0001 0), ran 100 (hard 0 lower) (hard-job 0 spent))
+    -- 12, noted: every bit above n; the rows that are known are released
+    ∷ (call-on stationA (tick-call 0x0004 0), ran 0 idle nothing ((12, some 0x0004) ∷ []))
+    ∷ (call-on stationA (tick-call 0x8006 0), ran 0 (hard 1 lower) nothing ((12, some 0x8004) ∷ []))
+    ∷ (call-on (freshStation []) (tick-call 0xffff 0), ran 0 idle nothing ((12, some 0xffff) ∷ []))
+    -- 13, noted: there was no tick; soft work ran
+    ∷ (call-on stationA (tick-call 0x0001 1), ran 0 (hard 0 lower) nothing ((13, none) ∷ []))
+    ∷ (call-on atClock2 (tick-call 0 1), ran 2 (hard 0 lower) nothing ((13, none) ∷ []))
+    -- 14, noted: rows not rested; a rested row with a job still open. Asked after the closing
+    ∷ (call-on atClock2 (tick-call 0x0002 0), ran 2 (hard 0 lower) nothing ((14, some 0x0002) ∷ []))
+    ∷ (call-on (oneRow 2 8 (opened 1) nobody) (tick-call 0x0001 0), ran 100 (hard 0 upper) nothing ((14, some 0x0001) ∷ []))
+    ∷ (call-on (oneRow 2 8 (opened 2) (row-at 0)) (tick-call 0x0001 0), ran 100 (hard 0 lower) (hard-job 0 spent) [])
+    ∷ (call-on (oneRow 2 8 (opened 1) (row-at 0)) (tick-call 0x0001 1), ran 100 (hard 0 lower) (hard-job 0 done) [])
+    -- all three, in number order; a bit above n is none of 14's
+    ∷ (call-on atClock2 (tick-call 0xf003 3), ran 2 soft nothing ((12, some 0xf000) ∷ (13, none) ∷ (14, some 0x0003) ∷ []))
     -- 15, before 17
     ∷ (call-on stationA (offer-call 0 0), refuses 15 0)
     ∷ (call-on fullQueue (offer-call 0 9), refuses 15 0)
@@ -157,11 +158,11 @@ refusals =
     -- 19: one byte short
     ∷ (output-of tableA 22, refuses 19 0)
     ∷ (output-of tableA 23, passes)
-    -- 20, before 12; done and soft together are none
+    -- 20, and then nothing is noted; done and soft together are none
     ∷ event-shows 20 (0x21 ∷ 0x00 ∷ 0x03 ∷ 0x00 ∷ 0x00 ∷ 0x04 ∷ []) endField
     ∷ (call-on stationA (tick-call 0x0004 7), refuses 20 0)
     ∷ (event-of (0x21 ∷ 0x00 ∷ 0x03 ∷ 0x00 ∷ 0x00 ∷ 0x03 ∷ []), passes)
-    ∷ (call-on (after stationA (tick-call 0x0003 0 ∷ [])) (tick-call 0 3), ran 1 soft (hard-job 0 done))
+    ∷ (call-on (after stationA (tick-call 0x0003 0 ∷ [])) (tick-call 0 3), ran 1 soft (hard-job 0 done) [])
     -- 21, after 9 in its row and in a row above, before 6 of a row below, and before 10 of a row above
     ∷ file-shows 21 [] (marginField 2 6 8 0 0) endField
     ∷ file-shows 9 [] (marginField 2 6 8 1 0) endField
@@ -178,18 +179,18 @@ refusals =
     ∷ (output-of (withMargin 4 (row 2 6 8 0) ∷ []) 15, passes)
     ∷ []
 
--- the number of what was found, 0 where it is no refusal
-abbrev pub given : Found → ℕ
-given (R-and-U R U) = 0
-given (values ws) = 0
-given (ran t r c) = 0
-given (ticket t) = 0
-given (refuses n row) = n
-given (shows n from size bytes) = n
-given passes = 0
+-- the number n is found: it refuses, or is noted
+abbrev pub given : ℕ → Found → Bool
+given n (R-and-U R U) = false
+given n (values ws) = false
+given n (ran t r c notes) = any (λ k note. eqb (note .0) n) 0 notes
+given n (ticket t) = false
+given n (refuses m row) = eqb m n
+given n (shows m from size bytes) = eqb m n
+given n passes = false
 
 -- the examples hold, and no number is left out
 pub record EveryRefusal : Type 0 where
   pub all-hold : AllHold refusals
   -- of 1 to 22 none is left out
-  pub none-missing : firstOf (λ n. not (any (λ k line. eqb (given (line .1)) n) 0 refusals)) 1 22 ≡ none
+  pub none-missing : firstOf (λ n. not (any (λ k line. given n (line .1)) 0 refusals)) 1 22 ≡ none

@@ -1,19 +1,19 @@
 -- Document 01, "Station figures": the marked ones as one table, the listing with the empty table's offers as another. Assumes nothing.
 -- Rows are counted from 1 here, as in document 01, and 0 stands for no row; a runner and a closing are those of Tick, which counts from 0.
 use Prim.Native.Nat.{suc, zero, ℕ, _+_, _-_}
-use mathlib.Core.Bool.{cond, _||_}
+use mathlib.Core.Bool.{cond}
 use mathlib.Core.List.{List, [], map, _++_, _∷_}
 use mathlib.Core.Option.{Option, none, some}
 use mathlib.Core.Path.{_≡_}
 use lib.Dec.{eqb}
 use lib.ListN.{drop, getElem?, length, replicate, take}
 use Rattle.rules.specs.Lists.{All}
-use Rattle.rules.specs.Refusals.{Refused, not-image, number}
+use Rattle.rules.specs.Refusals.{Note, Refused, none-ran, not-image, not-ready, noteNumber, number, unknown-row}
 use Rattle.rules.specs.Rows.{Row}
 use Rattle.rules.specs.Bound.{Plan, PlannedRow, f, plan, planned, promotion, unplanned}
 use Rattle.rules.specs.File.{Reading, Writing, fileBytes, read, read-as, unread, unwritten, write, written}
 use Rattle.rules.specs.Station.{Station, freshStation}
-use Rattle.rules.specs.Tick.{Closing, Runner, done, firm, firm-job, hard, hard-job, lower, nothing, soft, spent, upper}
+use Rattle.rules.specs.Tick.{Answer, Closing, Notes, Runner, done, firm, firm-job, hard, hard-job, idle, lower, nothing, soft, spent, upper}
 use Rattle.rules.specs.Calls.{Call, Reply, after, answered, offer-call, refused, step, tick-call, took}
 use Rattle.rules.specs.Events.{Event, bad-event, event, no-more, readEvent}
 use Rattle.rules.specs.Image.{isImage}
@@ -37,23 +37,32 @@ pub data Asked : Type 0 where
 pub data Found : Type 0 where
   R-and-U : (R U : ℕ) → Found
   values : List ℕ → Found
-  -- a tick's answer; an accepted offer's ticket
-  ran : (t : ℕ) → Runner → Closing → Found
+  -- a tick's answer, with its notes: number and bits; an accepted offer's ticket
+  ran : (t : ℕ) → Runner → Closing → List (ℕ × Option ℕ) → Found
   ticket : ℕ → Found
   -- a refusal: its number and the row that it names; its number and of the shown part where it starts, its size and its bytes
   refuses : (number row : ℕ) → Found
   shows : (number from size : ℕ) (bytes : List ℕ) → Found
   passes : Found
 
--- 6 to 10, 12, 14 and 22 are about a row
-
--- a refusal that names its row
+-- a refusal that names its row: 6 to 10 and 22
 abbrev pub rowRefusal : Refused → Found
 rowRefusal x = refuses (number (x .why)) (suc (x .row))
 
--- a refused call
-abbrev pub callRefusal : Refused → Found
-callRefusal x = cond (eqb (number (x .why)) 12 || eqb (number (x .why)) 14) (rowRefusal x) (refuses (number (x .why)) 0)
+-- the number of a note and its bits, if there are any
+abbrev pub bitsNoted : Note → ℕ → List (ℕ × Option ℕ)
+bitsNoted n bits = cond (eqb bits 0) [] ((noteNumber n, some bits) ∷ [])
+
+-- what is noted, in number order: the number, and for 12 and 14 the offending bits
+abbrev pub noted : Notes → List (ℕ × Option ℕ)
+noted n =
+    bitsNoted unknown-row (n .unknown)
+    ++ (cond (n .none-ran) ((noteNumber none-ran, none) ∷ []) []
+    ++ bitsNoted not-ready (n .not-ready))
+
+-- a tick's line, and the lines of its notes
+abbrev pub tickFound : Answer → Found
+tickFound a = ran (a .at) (a .runner) (a .closing) (noted (a .notes))
 
 -- R and U of a planned row
 abbrev pub rowFound : Option PlannedRow → Found
@@ -88,9 +97,9 @@ eventFound s (bad-event why size) = shows (number why) 0 size (take size s)
 
 -- of a call
 abbrev pub replyFound : Reply → Found
-replyFound (answered a) = ran (a .at) (a .runner) (a .closing)
+replyFound (answered a) = tickFound a
 replyFound (took t) = ticket t
-replyFound (refused x) = callRefusal x
+replyFound (refused why) = refuses (number why) 0
 
 -- the answer to each question
 abbrev pub found : Asked → Found
@@ -174,11 +183,11 @@ abbrev pub planLines : ℕ → List PlannedRow → List (List ℕ)
 planLines n [] = []
 planLines n (p ∷ ps) = (n ∷ p .row .C ∷ p .row .D ∷ p .row .T ∷ p .R ∷ promotion (p .row) (p .R) ∷ p .rounds ∷ []) ∷ planLines (suc n) ps
 
--- 12 to 18 show the whole event field, which stands at a place
+-- 15 to 18 show the whole event field, which stands at a place
 abbrev pub replyLine : ℕ → List ℕ → Reply → Found
-replyLine at field (answered a) = ran (a .at) (a .runner) (a .closing)
+replyLine at field (answered a) = tickFound a
 replyLine at field (took t) = ticket t
-replyLine at field (refused x) = shows (number (x .why)) at (length field) field
+replyLine at field (refused why) = shows (number why) at (length field) field
 
 -- the line of the event at the place at, where the bytes s are left; next: the lines of what follows
 abbrev pub eventLines : ℕ → List ℕ → Station → (ℕ → List ℕ → Station → List Found) → Event → List Found
@@ -219,17 +228,17 @@ fileA =
     ++ (0x01 ∷ 0x00 ∷ 0x07 ∷ 0x00 ∷ 0x05 ∷ 0x00 ∷ 0x0c ∷ 0x00 ∷ 0x0c ∷ 0x01 ∷ [])
     ++ (0x0f ∷ 0x00 ∷ 0x00 ∷ [])
 
--- hard 0 lower is L1, hard 1 upper is U2, hard-job 0 is H1
+-- hard 0 lower is L1, hard 1 upper is U2, hard-job 0 is H1; as §3 has it: the fifth event steps tick 3, and prints note 14 0001 after its line
 abbrev pub listing : Listing
 listing =
-    (0x21 ∷ 0x00 ∷ 0x03 ∷ 0x00 ∷ 0x03 ∷ 0x00 ∷ [], ran 0 (hard 0 lower) nothing)
-    ∷ (0x21 ∷ 0x00 ∷ 0x03 ∷ 0x00 ∷ 0x00 ∷ 0x02 ∷ [], ran 1 soft nothing)
+    (0x21 ∷ 0x00 ∷ 0x03 ∷ 0x00 ∷ 0x03 ∷ 0x00 ∷ [], ran 0 (hard 0 lower) nothing [])
+    ∷ (0x21 ∷ 0x00 ∷ 0x03 ∷ 0x00 ∷ 0x00 ∷ 0x02 ∷ [], ran 1 soft nothing [])
     ∷ (0x22 ∷ 0x00 ∷ 0x04 ∷ 0x00 ∷ 0x02 ∷ 0x00 ∷ 0x04 ∷ [], ticket 0)
-    ∷ (0x21 ∷ 0x00 ∷ 0x03 ∷ 0x00 ∷ 0x00 ∷ 0x00 ∷ [], ran 2 (firm 0) nothing)
-    ∷ (0x21 ∷ 0x00 ∷ 0x03 ∷ 0x00 ∷ 0x01 ∷ 0x00 ∷ [], shows 14 25 6 (0x21 ∷ 0x00 ∷ 0x03 ∷ 0x00 ∷ 0x01 ∷ 0x00 ∷ []))
-    ∷ (0x21 ∷ 0x00 ∷ 0x03 ∷ 0x00 ∷ 0x00 ∷ 0x00 ∷ [], ran 3 (firm 0) nothing)
-    ∷ (0x21 ∷ 0x00 ∷ 0x03 ∷ 0x00 ∷ 0x00 ∷ 0x00 ∷ [], ran 4 (hard 0 upper) (firm-job 0 spent))
-    ∷ (0x21 ∷ 0x00 ∷ 0x03 ∷ 0x00 ∷ 0x00 ∷ 0x01 ∷ [], ran 5 (hard 1 upper) (hard-job 0 done))
+    ∷ (0x21 ∷ 0x00 ∷ 0x03 ∷ 0x00 ∷ 0x00 ∷ 0x00 ∷ [], ran 2 (firm 0) nothing [])
+    ∷ (0x21 ∷ 0x00 ∷ 0x03 ∷ 0x00 ∷ 0x01 ∷ 0x00 ∷ [], ran 3 (firm 0) nothing ((14, some 0x0001) ∷ []))
+    ∷ (0x21 ∷ 0x00 ∷ 0x03 ∷ 0x00 ∷ 0x00 ∷ 0x00 ∷ [], ran 4 (hard 0 upper) (firm-job 0 spent) [])
+    ∷ (0x21 ∷ 0x00 ∷ 0x03 ∷ 0x00 ∷ 0x00 ∷ 0x00 ∷ [], ran 5 (hard 1 upper) (hard-job 0 spent) [])
+    ∷ (0x21 ∷ 0x00 ∷ 0x03 ∷ 0x00 ∷ 0x00 ∷ 0x01 ∷ [], ran 6 idle (hard-job 1 done) [])
     ∷ []
 
 -- B 5, d 5; then B 1, d 5; then B 1, d 6
@@ -242,7 +251,7 @@ emptyListing =
 
 -- not document 01's: ranks against the order of the rows
 abbrev pub rankListing : Listing
-rankListing = (0x21 ∷ 0x00 ∷ 0x03 ∷ 0x00 ∷ 0x03 ∷ 0x00 ∷ [], ran 0 (hard 1 lower) nothing) ∷ []
+rankListing = (0x21 ∷ 0x00 ∷ 0x03 ∷ 0x00 ∷ 0x03 ∷ 0x00 ∷ [], ran 0 (hard 1 lower) nothing []) ∷ []
 
 -- not document 01's: the file of A with the margins 1 and 5
 abbrev pub fileM : List ℕ
@@ -254,14 +263,14 @@ fileM =
 -- row 2 is promoted at once, row 1 at 3; the one has run its C before tick 7 = 12 − 5, the other before 5 = 6 − 1
 abbrev pub marginListing : Listing
 marginListing =
-    (0x21 ∷ 0x00 ∷ 0x03 ∷ 0x00 ∷ 0x03 ∷ 0x02 ∷ [], ran 0 (hard 1 upper) nothing)
-    ∷ (0x21 ∷ 0x00 ∷ 0x03 ∷ 0x00 ∷ 0x00 ∷ 0x02 ∷ [], ran 1 (hard 1 upper) nothing)
-    ∷ (0x21 ∷ 0x00 ∷ 0x03 ∷ 0x00 ∷ 0x00 ∷ 0x02 ∷ [], ran 2 (hard 1 upper) nothing)
-    ∷ (0x21 ∷ 0x00 ∷ 0x03 ∷ 0x00 ∷ 0x00 ∷ 0x02 ∷ [], ran 3 (hard 0 upper) nothing)
-    ∷ (0x21 ∷ 0x00 ∷ 0x03 ∷ 0x00 ∷ 0x00 ∷ 0x02 ∷ [], ran 4 (hard 0 upper) nothing)
-    ∷ (0x21 ∷ 0x00 ∷ 0x03 ∷ 0x00 ∷ 0x00 ∷ 0x02 ∷ [], ran 5 (hard 1 upper) (hard-job 0 spent))
-    ∷ (0x21 ∷ 0x00 ∷ 0x03 ∷ 0x00 ∷ 0x00 ∷ 0x02 ∷ [], ran 6 (hard 1 upper) nothing)
-    ∷ (0x21 ∷ 0x00 ∷ 0x03 ∷ 0x00 ∷ 0x00 ∷ 0x02 ∷ [], ran 7 soft (hard-job 1 spent))
+    (0x21 ∷ 0x00 ∷ 0x03 ∷ 0x00 ∷ 0x03 ∷ 0x02 ∷ [], ran 0 (hard 1 upper) nothing [])
+    ∷ (0x21 ∷ 0x00 ∷ 0x03 ∷ 0x00 ∷ 0x00 ∷ 0x02 ∷ [], ran 1 (hard 1 upper) nothing [])
+    ∷ (0x21 ∷ 0x00 ∷ 0x03 ∷ 0x00 ∷ 0x00 ∷ 0x02 ∷ [], ran 2 (hard 1 upper) nothing [])
+    ∷ (0x21 ∷ 0x00 ∷ 0x03 ∷ 0x00 ∷ 0x00 ∷ 0x02 ∷ [], ran 3 (hard 0 upper) nothing [])
+    ∷ (0x21 ∷ 0x00 ∷ 0x03 ∷ 0x00 ∷ 0x00 ∷ 0x02 ∷ [], ran 4 (hard 0 upper) nothing [])
+    ∷ (0x21 ∷ 0x00 ∷ 0x03 ∷ 0x00 ∷ 0x00 ∷ 0x02 ∷ [], ran 5 (hard 1 upper) (hard-job 0 spent) [])
+    ∷ (0x21 ∷ 0x00 ∷ 0x03 ∷ 0x00 ∷ 0x00 ∷ 0x02 ∷ [], ran 6 (hard 1 upper) nothing [])
+    ∷ (0x21 ∷ 0x00 ∷ 0x03 ∷ 0x00 ∷ 0x00 ∷ 0x02 ∷ [], ran 7 soft (hard-job 1 spent) [])
     ∷ []
 
 -- what is printed of A, of the empty table, of ranks against the order of rows, and of margins

@@ -1,5 +1,5 @@
 -- The few list functions that document 01's sentences need. Assumes nothing.
-use Prim.Native.Nat.{ℕ, zero, suc, _+_}
+use Prim.Native.Nat.{ℕ, zero, suc, _+_, _*_}
 use mathlib.Core.Bool.{Bool, true, false, cond, _&&_, _||_}
 use mathlib.Core.List.{List, [], _∷_}
 use mathlib.Core.Option.{Option, none, some}
@@ -24,6 +24,11 @@ module _ {A : Type 0} where
   abbrev pub any : (ℕ → A → Bool) → ℕ → List A → Bool
   any t i [] = false
   any t i (a ∷ l) = t i a || any t (suc i) l
+
+  -- the set of the positions, counted from i, whose element passes the test: bit 0 for the first
+  abbrev pub setOf : (ℕ → A → Bool) → ℕ → List A → ℕ
+  setOf t i [] = 0
+  setOf t i (a ∷ l) = cond (t i a) 1 0 + 2 * setOf t (suc i) l
 
   -- f of every element, added up
   abbrev pub total : (A → ℕ) → List A → ℕ

@@ -1,4 +1,4 @@
--- Document 01, "Numbers given instead of an answer": every refusal by its name, and its number. Assumes nothing.
+-- Document 01, "Numbers given instead of an answer": every refusal by its name, and its number; and those that a tick's answer notes instead (§3). Assumes nothing.
 use Prim.Native.Nat.{ℕ}
 
 -- why something is refused
@@ -11,8 +11,6 @@ pub data Refusal : Type 0 where
   M-zero R-M-over-D : Refusal
   -- the state block
   not-image : Refusal
-  -- ticks: a released row above n; done, and no job ran; a released row not rested, or still open
-  unknown-row none-ran not-ready : Refusal
   -- offers
   B-zero d-under-B queue-full room-short : Refusal
   -- the output for a table; the flags of a tick
@@ -31,9 +29,6 @@ number D-over-T = 8
 number bad-rank = 9
 number passes-D = 10
 number not-image = 11
-number unknown-row = 12
-number none-ran = 13
-number not-ready = 14
 number B-zero = 15
 number d-under-B = 16
 number queue-full = 17
@@ -42,6 +37,16 @@ number small-output = 19
 number unknown-flag = 20
 number M-zero = 21
 number R-M-over-D = 22
+
+-- what a tick notes and passes over: a released row above n; done, and no job ran; a released row not rested, or still open
+pub data Note : Type 0 where
+  unknown-row none-ran not-ready : Note
+
+-- the number noted
+abbrev pub noteNumber : Note → ℕ
+noteNumber unknown-row = 12
+noteNumber none-ran = 13
+noteNumber not-ready = 14
 
 -- a refusal, and the position of the row that it is about, counted from 0 (0 where it is about none)
 pub record Refused : Type 0 where

@@ -1,12 +1,11 @@
--- Document 01, "The tick": 1 close, 2 release, 3 choose, 4 run, after the checks 12, 13, 14. Rows are counted from 0. Assumes nothing.
-use Prim.Native.Nat.{ℕ, suc, _/_, _%_, _^_, min}
-use mathlib.Core.Bool.{Bool, true, false, not, cond, _&&_}
+-- Document 01, "The tick": 1 close, 2 release, 3 choose, 4 run; what 12, 13, 14 are about is noted and treated as clear (§3). Rows are counted from 0. Assumes nothing.
+use Prim.Native.Nat.{ℕ, suc, _-_, _/_, _%_, _^_, min}
+use mathlib.Core.Bool.{Bool, true, false, not, cond, _&&_, _||_}
 use mathlib.Core.List.{List, [], _∷_, map}
 use mathlib.Core.Option.{Option, none, some, Option·map, Option·getD}
 use lib.Dec.{leb, ltb, eqb}
 use lib.ListN.{length}
-use Rattle.rules.specs.Lists.{each, find, any, orElse, unless, firstOf}
-use Rattle.rules.specs.Refusals.{unknown-row, none-ran, not-ready, Refused, refusal, atRow}
+use Rattle.rules.specs.Lists.{each, find, any, setOf, orElse}
 use Rattle.rules.specs.Station.{Job, closed, opened, Slot, Firm, Last, nobody, row-at, firm-of, Station, hold, rested, isOpen, promoted, unpromoted, withJob}
 
 -- promoted, or not
@@ -36,15 +35,26 @@ closedAs nothing = none
 closedAs (hard-job k how) = some how
 closedAs (firm-job t how) = some how
 
--- the answer: the clock as the tick found it, who runs, and what closed
+-- what a tick treats as clear: 12, release bits of rows above n; 13, the done flag; 14, release bits of rows not ready
+pub record Notes : Type 0 where
+  pub unknown : ℕ
+  pub none-ran : Bool
+  pub not-ready : ℕ
+
+-- the answer: the clock as the tick found it, who runs, what closed, and the notes
 pub record Answer : Type 0 where
   pub at : ℕ
   pub runner : Runner
   pub closing : Closing
+  pub notes : Notes
 
 -- row k's bit of a release set
 abbrev pub bit : ℕ → ℕ → Bool
 bit set k = eqb (set / 2 ^ k % 2) 1
+
+-- row k is released: its bit is set, and not noted
+abbrev pub opens : ℕ → Notes → ℕ → Bool
+opens set n k = bit set k && not (bit (n .unknown) k || bit (n .not-ready) k)
 
 -- 1. Close
 
@@ -117,9 +127,9 @@ close st d = closeLast st d (st .last)
 abbrev pub released : Slot → Slot
 released s = withJob s 0 (opened 0)
 
--- each set bit opens a job of that row, nothing run
-abbrev pub release : ℕ → List Slot → List Slot
-release set ss = each (λ k s. cond (bit set k) (released s) s) 0 ss
+-- each row that is released opens a job, nothing run
+abbrev pub release : (ℕ → Bool) → List Slot → List Slot
+release open-at ss = each (λ k s. cond (open-at k) (released s) s) 0 ss
 
 -- 3. Choose
 
@@ -206,11 +216,11 @@ run st ss r = record {
   last = lastOf r;
 }
 
--- the checks
+-- the notes
 
--- 12: a release bit of a row above n
-abbrev pub unknown : List Slot → ℕ → ℕ → Bool
-unknown ss set k = bit set k && leb (length ss) k
+-- 12: the release bits of rows above n: the set less those of rows 1 to n
+abbrev pub unknownBits : ℕ → ℕ → ℕ
+unknownBits n set = set - set % 2 ^ n
 
 -- 13: done, and the last accepted tick ran no hard or firm job, or there was none
 abbrev pub noneRan : Last → Bool → Bool
@@ -222,27 +232,31 @@ noneRan (firm-of t) d = false
 abbrev pub unready : ℕ → ℕ → Slot → Bool
 unready set k s = bit set k && not (rested s && not (isOpen (s .job)))
 
--- the first of 12, 13, 14 that fails; the lowest offending bit names the row
-abbrev pub tickFault : Station → ℕ → Bool → Option Refused
-tickFault st set d =
-    orElse (Option·map (atRow unknown-row) (firstOf (unknown (st .slots) set) 0 16))
-    (orElse (cond (noneRan (st .last) d) (some (refusal none-ran)) none)
-    (Option·map (atRow not-ready) (find (unready set) 0 (close st d .station .slots))))
+-- all of them; 13: where no job ran nothing closes, whatever the flag says
+abbrev pub notesOf : Station → ℕ → Bool → Notes
+notesOf st set d = record {
+  unknown = unknownBits (length (st .slots)) set;
+  none-ran = noneRan (st .last) d;
+  not-ready = setOf (unready set) 0 (close st d .station .slots);
+}
 
 -- the tick
 
--- the station after an accepted tick with the answer; or the refusal
-pub data Ticked : Type 0 where
-  ticked : Station → Answer → Ticked
-  no-tick : Refused → Ticked
+-- the station after a tick, and the answer
+pub record Outcome : Type 0 where
+  pub station : Station
+  pub answer : Answer
 
 -- 1 to 4; c: the station as 1 leaves it
-abbrev pub stepped : Closed → ℕ → Bool → Ticked
-stepped c set wants =
-    let ss = release set (c .station .slots) in
+abbrev pub stepped : Closed → ℕ → Notes → Bool → Outcome
+stepped c set n wants =
+    let ss = release (opens set n) (c .station .slots) in
     let r = choose ss (c .station .firms) wants in
-    ticked (run (c .station) ss r) (record { at = c .station .clock; runner = r; closing = c .closing })
+    record {
+      station = run (c .station) ss r;
+      answer = record { at = c .station .clock; runner = r; closing = c .closing; notes = n };
+    }
 
 -- set: the release set; d: the done flag; wants: the soft flag
-unfoldable pub tick : Station → ℕ → Bool → Bool → Ticked
-tick st set d wants = unless (tickFault st set d) no-tick (stepped (close st d) set wants)
+unfoldable pub tick : Station → ℕ → Bool → Bool → Outcome
+tick st set d wants = stepped (close st d) set (notesOf st set d) wants
