@@ -6,6 +6,7 @@ use Rattle.answer.specs.declared.Runner.{Runner}
 use Rattle.answer.specs.declared.Runner.the-variants.{Hard, Firm, Soft, Idle}
 use Rattle.answer.specs.declared.Closing.{Closing}
 use Rattle.answer.specs.declared.Closing.the-variants.{Nothing, HardDone, HardSpent, FirmDone, FirmSpent}
+use Rattle.answer.specs.declared.Notes.{Notes}
 use Rattle.answer.specs.declared.Answer.{Answer}
 
 -- the band
@@ -28,6 +29,10 @@ closingOf (rules.hard-job i rules.spent) = HardSpent i
 closingOf (rules.firm-job t rules.done) = FirmDone t
 closingOf (rules.firm-job t rules.spent) = FirmSpent t
 
+-- what was noted
+abbrev pub notesOf : rules.Notes → Notes
+notesOf n = record { unknown = n .unknown; «none_ran» = n .none-ran; «not_ready» = n .not-ready }
+
 -- the whole answer
 abbrev pub answerOf : rules.Answer → Answer
-answerOf a = record { clock = a .at; runner = runnerOf (a .runner); closing = closingOf (a .closing) }
+answerOf a = record { clock = a .at; runner = runnerOf (a .runner); closing = closingOf (a .closing); notes = notesOf (a .notes) }

@@ -1,5 +1,6 @@
 -- The answer in numbers: every case of every enum. Rows are counted from 1 here; 0 stands where a number says nothing. Assumes nothing.
 use Prim.Native.Nat.{ℕ, _+_}
+use mathlib.Core.Bool.{Bool, true, false}
 use Rattle.answer.specs.declared.Band.{Band}
 use Rattle.answer.specs.declared.Band.the-variants.{Upper, Lower}
 use Rattle.answer.specs.declared.Closing.{Closing}
@@ -12,6 +13,11 @@ use Rattle.answer.specs.declared.RunnerNumbers.{RunnerNumbers}
 -- the row at k
 abbrev pub rowNumber : ℕ → ℕ
 rowNumber k = k + 1
+
+-- a flag
+abbrev pub flagNumber : Bool → ℕ
+flagNumber true = 1
+flagNumber false = 0
 
 -- the runner
 

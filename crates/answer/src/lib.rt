@@ -1,8 +1,8 @@
-// The answer to a tick: who runs and what closed; and both in numbers. Rows are counted from 0 in the answer, from 1 in the numbers.
+// The answer to a tick: who runs, what closed and what was noted; and who and what in numbers. Rows are counted from 0 in the answer, from 1 in the numbers.
 ghost use mathlib.Core.Path.{_≡_};
 ghost use Prim.Native.Nat.{_<_};
 ghost use Rattle.answer.specs.Below.{ClosingBelow, RunnerBelow};
-ghost use Rattle.answer.specs.Numbers.{bandNumber, closingNumbers, firmClosing, hardClosing, rowNumber, runnerNumbers};
+ghost use Rattle.answer.specs.Numbers.{bandNumber, closingNumbers, firmClosing, flagNumber, hardClosing, rowNumber, runnerNumbers};
 
 // The band in which a hard row runs: upper where its job is promoted.
 pub enum Band {
@@ -27,11 +27,20 @@ pub enum Closing {
     FirmSpent(u32),
 }
 
-// The answer to a tick: the clock as the tick found it, who runs, and what closed.
+// What a tick took as clear. unknown: release bits of rows above n (12). none_ran: the done flag, where no job ran (13).
+// not_ready: release bits of rows that are not rested, or whose job is still open after the closing (14).
+pub struct Notes {
+    pub unknown: u16,
+    pub none_ran: bool,
+    pub not_ready: u16,
+}
+
+// The answer to a tick: the clock as the tick found it, who runs, what closed, and the notes.
 pub struct Answer {
     pub clock: u32,
     pub runner: Runner,
     pub closing: Closing,
+    pub notes: Notes,
 }
 
 // A runner in numbers; 0 where a number says nothing.
@@ -56,6 +65,13 @@ pub fn row_number(k: usize) -> u8
     ensures { λ r. ⌜ r ≡ rowNumber k ⌝ }
 {
     k as u8 + 1
+}
+
+// A flag: 1 where it is set.
+pub fn flag_number(b: bool) -> u8
+    ensures { λ r. ⌜ r ≡ flagNumber b ⌝ }
+{
+    b as u8
 }
 
 // Who runs: 1 hard, with its row and band, 2 firm, with its ticket, 3 soft, 4 idle.

@@ -15,8 +15,6 @@ use Rattle.table.specs.Memory.{rowsOf}
 use Rattle.state.specs.declared.Rows.{Rows}
 use Rattle.state.specs.declared.State.{State}
 use Rattle.dispatch.specs.declared.Ticked.{Ticked}
-use Rattle.dispatch.specs.declared.TickVerdict.{TickVerdict}
-use Rattle.dispatch.specs.declared.TickVerdict.the-variants.{NoneRan, NotReady, Stepped, Unknown}
 use Rattle.dispatch.specs.Steps.{tickIn}
 use Rattle.offer.specs.declared.Offered.{Offered}
 use Rattle.offer.specs.declared.Offered.the-variants.{Refused, Ticket}
@@ -25,7 +23,7 @@ use Rattle.offer.specs.Steps.{claimsOf, offerMade, refusedBy, ticketFor, unrunO
 use Rattle.block.specs.Places.{block-bytes}
 use Rattle.block.specs.Tests.{decodedAs, decodedOf}
 use Rattle.block.proofs.Results.{block-promises}
-use Rattle.board.specs.Blocks.{giving, madeOn, offerBlock, offeredOn, planBlock, plannedOn, tableBlock, tickBlock, tickDecoded, tickedOn, verdictOn, writingOn}
+use Rattle.board.specs.Blocks.{giving, madeOn, offerBlock, offeredOn, planBlock, plannedOn, tableBlock, tickBlock, tickDecoded, tickedOn, writingOn}
 use Rattle.board.specs.Numbers.{refusedOffer, refusedPlan, refusedTable, refusedTick}
 use Rattle.board.specs.Promises.{Untouched}
 use Rattle.board.proofs.Standing.{StandsFor}
@@ -42,12 +40,6 @@ plan-refused b file = go (eqb (length b) block-bytes) (read file)
     go true (unread why from size) h = refl
     go false R h = refl
 
-verdict-refused : (v : TickVerdict) (s : State) (b : List ℕ) → (verdictOn v s b .answer .refusal ≡ 0 → ⊥) → verdictOn v s b .block ≡ b
-verdict-refused (Stepped a) s b h = absurd (h refl)
-verdict-refused (Unknown k) s b h = refl
-verdict-refused NoneRan s b h = refl
-verdict-refused (NotReady k) s b h = refl
-
 module _ (b : List ℕ) (set flags : ℕ) where
   abbrev stepped : Ticked
   stepped = tickIn (decodedOf b .rows) (decodedOf b .state) set (doneFlag flags) (softFlag flags)
@@ -57,10 +49,10 @@ module _ (b : List ℕ) (set flags : ℕ) where
   tick-refused = go (otherFlag flags) (decodedOf b .ok)
     where
       go : (f ok : Bool)
-          → (cond f (giving (refusedTick (number unknown-flag) 0) b) (cond ok (tickedOn stepped b) (giving (refusedTick (number not-image) 0) b)) .answer .refusal ≡ 0 → ⊥)
-          → cond f (giving (refusedTick (number unknown-flag) 0) b) (cond ok (tickedOn stepped b) (giving (refusedTick (number not-image) 0) b)) .block ≡ b
+          → (cond f (giving (refusedTick (number unknown-flag)) b) (cond ok (tickedOn stepped b) (giving (refusedTick (number not-image)) b)) .answer .refusal ≡ 0 → ⊥)
+          → cond f (giving (refusedTick (number unknown-flag)) b) (cond ok (tickedOn stepped b) (giving (refusedTick (number not-image)) b)) .block ≡ b
       go true ok h = refl
-      go false true h = verdict-refused (stepped .verdict) (stepped .state) b h
+      go false true h = absurd (h refl)
       go false false h = refl
 
 offered-refused : (o : Offered) (s : State) (b : List ℕ) → (offeredOn o s b .answer .refusal ≡ 0 → ⊥) → offeredOn o s b .block ≡ b
@@ -95,12 +87,6 @@ untouched = record { plan-refused = plan-refused; tick-refused = tick-refused; o
 
 -- a block that holds a state is not refused with 11
 
-verdict-not-11 : (v : TickVerdict) (s : State) (b : List ℕ) → verdictOn v s b .answer .refusal ≡ 11 → ⊥
-verdict-not-11 (Stepped a) s b e = omega arith
-verdict-not-11 (Unknown k) s b e = omega arith
-verdict-not-11 NoneRan s b e = omega arith
-verdict-not-11 (NotReady k) s b e = omega arith
-
 offered-not-11 : (rows : Rows) (s : State) (B d : ℕ) (b : List ℕ) → madeOn (offerMade rows s B d) b .answer .refusal ≡ 11 → ⊥
 unfolding offerMade
 offered-not-11 rows s B d b = go (eqb B 0) (ltb d B) (leb 8 (s .count)) (leb (claimsOf rows s d + (B + unrunOf s)) d)
@@ -121,9 +107,9 @@ module _ {b : List ℕ} {st : Station} (H : StandsFor b st) where
   unfolding tickBlock
   tick-not-11 set flags = rw decoded (go (otherFlag flags))
     where
-      go : (f : Bool) → cond f (giving (refusedTick (number unknown-flag) 0) b) (tickDecoded (decodedAs (H .rows) (H .state)) b set flags) .answer .refusal ≡ 11 → ⊥
+      go : (f : Bool) → cond f (giving (refusedTick (number unknown-flag)) b) (tickDecoded (decodedAs (H .rows) (H .state)) b set flags) .answer .refusal ≡ 11 → ⊥
       go true e = omega arith
-      go false e = let r = tickIn (H .rows) (H .state) set (doneFlag flags) (softFlag flags) in verdict-not-11 (r .verdict) (r .state) b e
+      go false e = omega arith
 
   pub offer-not-11 : (B d : ℕ) → offerBlock b B d .answer .refusal ≡ 11 → ⊥
   unfolding offerBlock

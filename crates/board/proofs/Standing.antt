@@ -2,20 +2,21 @@
 use Prim.Native.Nat.{ℕ}
 use mathlib.Core.Bool.{Bool, true, false, cond}
 use mathlib.Core.List.{List, [], _∷_}
+use mathlib.Core.Option.{some}
 use mathlib.Core.Path.{_≡_, refl, sym, ap, ap₂, subst}
 use borrow.Author.Tests.{eq-eqb}
 use lib.ListN.{length}
-use Rattle.rules.specs.Calls.{AllShort, Call, Short, after, afterOffer, afterTick, doneFlag, offer-call, otherFlag, replies, softFlag, step, tick-call}
+use Rattle.rules.specs.Calls.{AllShort, Call, Short, after, afterOffer, afterTick, answered, asTicked, doneFlag, no-tick, offer-call, otherFlag, replies, softFlag, step, tick-call}
 use Rattle.rules.specs.Image.{isImage}
 use Rattle.rules.specs.Offer.{Offered, accepted, no-offer, offer}
-use Rattle.rules.specs.Refusals.{number, refusal, unknown-flag}
+use Rattle.rules.specs.Refusals.{number, unknown-flag}
 use Rattle.rules.specs.Station.{Station}
 use Rattle.rules.specs.Tables.{Bytes}
-use Rattle.rules.specs.Tick.{Ticked, no-tick, tick, ticked}
+use Rattle.rules.specs.Tick.{Outcome, tick}
 use Rattle.state.specs.declared.Rows.{Rows}
 use Rattle.state.specs.declared.State.{State}
 use Rattle.state.specs.Meaning.{Stored, stationOf}
-use Rattle.dispatch.specs.declared.Ticked as memory
+use Rattle.dispatch.specs.declared.Ticked.{Ticked}
 use Rattle.dispatch.specs.Refines.{TickRefines}
 use Rattle.dispatch.specs.Steps.{tickIn}
 use Rattle.dispatch.proofs.Refine.{tick-refines}
@@ -32,8 +33,9 @@ use Rattle.board.specs.declared.OfferAnswer.{OfferAnswer}
 use Rattle.board.specs.declared.TickAnswer.{TickAnswer}
 use Rattle.board.specs.Blocks.{Out, giving, madeOn, offerBlock, offerDecoded, tickBlock, tickDecoded, tickedOn}
 use Rattle.board.specs.Numbers.{refusedTick}
-use Rattle.board.specs.Promises.{blockAfter, blockOn, blockReplies, offerReply, replyOn, tickReply}
-use Rattle.board.proofs.Named.{RefusedSo, answer-back, named-back, tick-named}
+use Rattle.board.specs.Promises.{blockAfter, blockOn, blockReplies, replyOn, then}
+use Rattle.board.specs.Replies.{offerReply, tickReply}
+use Rattle.board.proofs.Named.{answer-back, named-back}
 
 pub record StandsFor (b : List ℕ) (st : Station) : Type 0 where
   pub rows : Rows
@@ -84,32 +86,31 @@ module _ (rows : Rows) (s : State) (I : Imaged rows s) where
       let J = stays-imaged rows s s′ I S′ in
       record { rows = rows; state = s′; imaged = J; block-is = sym (written-over rows s s′ I J); station-is = e }
 
-  ticked-stands : (T : Ticked) (r : memory.Ticked) → TickRefines rows s T r → RefusedSo T
-      → (tickReply (tickedOn r b .answer) ≡ afterTick st T .reply) × StandsFor (tickedOn r b .block) (afterTick st T .station)
-  ticked-stands (ticked st′ x) r (v, e, S′) n = rw v (answer-back x, stepped-stands (r .state) st′ e S′)
-  ticked-stands (no-tick y) r (v, e) n = rw v (n (r .state) b .0, subst (λ l. StandsFor l st) (sym (n (r .state) b .1)) same)
+  ticked-stands : (o : Outcome) (r : Ticked) → TickRefines rows o r
+      → (tickReply (tickedOn r b .answer) ≡ some (answered (o .answer))) × StandsFor (tickedOn r b .block) (o .station)
+  ticked-stands o r (v, e, S′) = (rw v (answer-back (o .answer)), stepped-stands (r .state) (o .station) e S′)
 
-  tick-on : (set flags : ℕ) → tickBlock b set flags ≡ cond (otherFlag flags) (giving (refusedTick (number unknown-flag) 0) b) (tickDecoded (decodedAs rows s) b set flags)
+  tick-on : (set flags : ℕ) → tickBlock b set flags ≡ cond (otherFlag flags) (giving (refusedTick (number unknown-flag)) b) (tickDecoded (decodedAs rows s) b set flags)
   unfolding tickBlock
-  tick-on set flags = ap (λ x. cond (otherFlag flags) (giving (refusedTick (number unknown-flag) 0) b) (tickDecoded x b set flags)) (block-promises .decode-encode rows s I)
+  tick-on set flags = ap (λ x. cond (otherFlag flags) (giving (refusedTick (number unknown-flag)) b) (tickDecoded x b set flags)) (block-promises .decode-encode rows s I)
 
   tick-stands : (set flags : ℕ) → Short (tick-call set flags)
-      → (replyOn b (tick-call set flags) ≡ step st (tick-call set flags) .reply) × StandsFor (blockOn b (tick-call set flags)) (step st (tick-call set flags) .station)
+      → (replyOn b (tick-call set flags) ≡ some (step st (tick-call set flags) .reply)) × StandsFor (blockOn b (tick-call set flags)) (step st (tick-call set flags) .station)
   tick-stands set flags (small, h) =
-      subst (λ (o : Out TickAnswer). (tickReply (o .answer) ≡ step st (tick-call set flags) .reply) × StandsFor (o .block) (step st (tick-call set flags) .station)) (sym (tick-on set flags)) (go (otherFlag flags))
+      subst (λ (o : Out TickAnswer). (tickReply (o .answer) ≡ some (step st (tick-call set flags) .reply)) × StandsFor (o .block) (step st (tick-call set flags) .station)) (sym (tick-on set flags)) (go (otherFlag flags))
     where
       go : (f : Bool)
-          → (tickReply (cond f (giving (refusedTick (number unknown-flag) 0) b) (tickDecoded (decodedAs rows s) b set flags) .answer)
-          ≡ afterTick st (cond f (no-tick (refusal unknown-flag)) (tick st set (doneFlag flags) (softFlag flags))) .reply)
-          × StandsFor (cond f (giving (refusedTick (number unknown-flag) 0) b) (tickDecoded (decodedAs rows s) b set flags) .block)
-          (afterTick st (cond f (no-tick (refusal unknown-flag)) (tick st set (doneFlag flags) (softFlag flags))) .station)
+          → (tickReply (cond f (giving (refusedTick (number unknown-flag)) b) (tickDecoded (decodedAs rows s) b set flags) .answer)
+          ≡ some (afterTick st (cond f (no-tick unknown-flag) (asTicked (tick st set (doneFlag flags) (softFlag flags)))) .reply))
+          × StandsFor (cond f (giving (refusedTick (number unknown-flag)) b) (tickDecoded (decodedAs rows s) b set flags) .block)
+          (afterTick st (cond f (no-tick unknown-flag) (asTicked (tick st set (doneFlag flags) (softFlag flags)))) .station)
       go true = (refl, same)
       go false =
           ticked-stands (tick st set (doneFlag flags) (softFlag flags)) (tickIn rows s set (doneFlag flags) (softFlag flags))
-          (tick-refines rows s (I .stored) set small (doneFlag flags) (softFlag flags)) (tick-named st set (doneFlag flags) (softFlag flags))
+          (tick-refines rows s (I .stored) set small (doneFlag flags) (softFlag flags))
 
   made-stands : (O : Offered) (r : OfferMade) → OfferIs rows s r O
-      → (offerReply (madeOn r b .answer) ≡ afterOffer st O .reply) × StandsFor (madeOn r b .block) (afterOffer st O .station)
+      → (offerReply (madeOn r b .answer) ≡ some (afterOffer st O .reply)) × StandsFor (madeOn r b .block) (afterOffer st O .station)
   made-stands (accepted st′ t) r (v, e, S′) = rw v (refl, stepped-stands (r .state) st′ e S′)
   made-stands (no-offer why) r (v, e) = rw (v, named-back why .0, named-back why .1) (refl, same)
 
@@ -118,23 +119,23 @@ module _ (rows : Rows) (s : State) (I : Imaged rows s) where
   offer-on B d = ap (λ x. offerDecoded x b B d) (block-promises .decode-encode rows s I)
 
   offer-stands : (B d : ℕ) → Short (offer-call B d)
-      → (replyOn b (offer-call B d) ≡ step st (offer-call B d) .reply) × StandsFor (blockOn b (offer-call B d)) (step st (offer-call B d) .station)
+      → (replyOn b (offer-call B d) ≡ some (step st (offer-call B d) .reply)) × StandsFor (blockOn b (offer-call B d)) (step st (offer-call B d) .station)
   offer-stands B d (small, h) =
-      subst (λ (o : Out OfferAnswer). (offerReply (o .answer) ≡ step st (offer-call B d) .reply) × StandsFor (o .block) (step st (offer-call B d) .station)) (sym (offer-on B d))
+      subst (λ (o : Out OfferAnswer). (offerReply (o .answer) ≡ some (step st (offer-call B d) .reply)) × StandsFor (o .block) (step st (offer-call B d) .station)) (sym (offer-on B d))
       (made-stands (offer st B d) (offerMade rows s B d) (offer-refines rows s B d (I .stored) small h))
 
-  call-stands : (c : Call) → Short c → (replyOn b c ≡ step st c .reply) × StandsFor (blockOn b c) (step st c .station)
+  call-stands : (c : Call) → Short c → (replyOn b c ≡ some (step st c .reply)) × StandsFor (blockOn b c) (step st c .station)
   call-stands (tick-call set flags) h = tick-stands set flags h
   call-stands (offer-call B d) h = offer-stands B d h
 
-pub step-stands : (b : List ℕ) (st : Station) (c : Call) → Short c → StandsFor b st → (replyOn b c ≡ step st c .reply) × StandsFor (blockOn b c) (step st c .station)
+pub step-stands : (b : List ℕ) (st : Station) (c : Call) → Short c → StandsFor b st → (replyOn b c ≡ some (step st c .reply)) × StandsFor (blockOn b c) (step st c .station)
 step-stands b st c h H = rw (← (H .block-is), ← (H .station-is)) (call-stands (H .rows) (H .state) (H .imaged) c h)
 
 pub replies-stands : (cs : List Call) (b : List ℕ) (st : Station) → AllShort cs → StandsFor b st → blockReplies b cs ≡ replies st cs
 replies-stands [] b st h H = refl
 replies-stands (c ∷ cs) b st (h, hs) H =
     let (r, H′) = step-stands b st c h H in
-    ap₂ (λ x xs. x ∷ xs) r (replies-stands cs (blockOn b c) (step st c .station) hs H′)
+    ap₂ then r (replies-stands cs (blockOn b c) (step st c .station) hs H′)
 
 pub after-stands : (cs : List Call) (b : List ℕ) (st : Station) → AllShort cs → StandsFor b st → StandsFor (blockAfter b cs) (after st cs)
 after-stands [] b st h H = H

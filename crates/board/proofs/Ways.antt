@@ -19,7 +19,6 @@ use Rattle.state.specs.declared.Rows.{Rows}
 use Rattle.state.specs.declared.State.{State}
 use Rattle.state.specs.Fresh.{plannedRows, freshIn}
 use Rattle.dispatch.specs.declared.Ticked.{Ticked}
-use Rattle.dispatch.specs.declared.TickVerdict.{TickVerdict}
 use Rattle.dispatch.specs.Steps.{tickIn}
 use Rattle.offer.specs.declared.Offered.{Offered}
 use Rattle.offer.specs.declared.OfferMade.{OfferMade}
@@ -28,7 +27,7 @@ use Rattle.block.specs.declared.Decoded.{Decoded}
 use Rattle.block.specs.Layout.{encodedOn, imageOf}
 use Rattle.block.specs.Places.{block-bytes}
 use Rattle.block.specs.Tests.{decodedOf}
-use Rattle.board.specs.Blocks.{Out, giving, offerBlock, offeredOn, planBlock, plannedOn, tableBlock, tickBlock, tickDecoded, verdictOn}
+use Rattle.board.specs.Blocks.{Out, giving, offerBlock, offeredOn, planBlock, plannedOn, tableBlock, tickBlock, tickDecoded, tickedOn}
 use Rattle.board.specs.Numbers.{donePlan, refusedOffer, refusedPlan, refusedTable, refusedTick, writtenTable}
 
 -- both halves of what a function gives
@@ -38,7 +37,7 @@ halves w = (sym (ap (λ o. o .answer) w), sym (ap (λ o. o .block) w))
 -- the tick
 
 module _ (b : List ℕ) (set flags : ℕ) where
-  pub flag-way : 4 ≤ flags → tickBlock b set flags ≡ giving (refusedTick (number unknown-flag) 0) b
+  pub flag-way : 4 ≤ flags → tickBlock b set flags ≡ giving (refusedTick (number unknown-flag)) b
   unfolding tickBlock
   flag-way h = rw (le-leb 4 flags h)
 
@@ -47,12 +46,12 @@ module _ (b : List ℕ) (set flags : ℕ) where
     unfolding tickBlock
     decoded-way = rw (lt-leb 4 flags h, e)
 
-    pub no-image-way : x .ok ≡ false → tickBlock b set flags ≡ giving (refusedTick (number not-image) 0) b
+    pub no-image-way : x .ok ≡ false → tickBlock b set flags ≡ giving (refusedTick (number not-image)) b
     no-image-way bad = decoded-way ∙ rw bad
 
-    pub verdict-way : x .ok ≡ true → (d w : Bool) → d ≡ doneFlag flags → w ≡ softFlag flags → (r : Ticked) → r ≡ tickIn (x .rows) (x .state) set d w
-        → (v : TickVerdict) → r .verdict ≡ v → tickBlock b set flags ≡ verdictOn v (r .state) b
-    verdict-way good d w de we r re v ve = decoded-way ∙ rw (good, ← de, ← we, ← re, ve)
+    pub ticked-way : x .ok ≡ true → (d w : Bool) → d ≡ doneFlag flags → w ≡ softFlag flags → (r : Ticked) → r ≡ tickIn (x .rows) (x .state) set d w
+        → tickBlock b set flags ≡ tickedOn r b
+    ticked-way good d w de we r re = decoded-way ∙ rw (good, ← de, ← we, ← re)
 
 -- the offer
 

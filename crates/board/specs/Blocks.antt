@@ -6,16 +6,13 @@ use lib.Dec.{eqb}
 use lib.ListN.{length}
 use Rattle.rules.specs.Calls.{doneFlag, otherFlag, softFlag}
 use Rattle.rules.specs.File.{Reading, Writing, read, read-as, scan, unread, write}
-use Rattle.rules.specs.Refusals.{none-ran, not-image, not-ready, number, unknown-flag, unknown-row}
+use Rattle.rules.specs.Refusals.{not-image, number, unknown-flag}
 use Rattle.table.specs.Answers.{outputAfter, scanRow, writtenOf}
 use Rattle.table.specs.Memory.{rowsOf}
 use Rattle.state.specs.Fresh.{rowsFor, freshIn}
 use Rattle.state.specs.declared.State.{State}
-use Rattle.answer.specs.Numbers.{rowNumber}
 use Rattle.dispatch.specs.Steps.{tickIn}
 use Rattle.dispatch.specs.declared.Ticked.{Ticked}
-use Rattle.dispatch.specs.declared.TickVerdict.{TickVerdict}
-use Rattle.dispatch.specs.declared.TickVerdict.the-variants.{Stepped, Unknown, NoneRan, NotReady}
 use Rattle.offer.specs.Steps.{offerMade}
 use Rattle.offer.specs.declared.Offered.{Offered}
 use Rattle.offer.specs.declared.Offered.the-variants.{Refused, Ticket}
@@ -50,27 +47,20 @@ plannedOn b row (unread why from size) = giving (refusedPlan (number why) row fr
 unfoldable pub planBlock : List ℕ → List ℕ → Out PlanAnswer
 planBlock b file = cond (eqb (length b) block-bytes) (plannedOn b (scanRow (scan 16 0 file)) (read file)) (giving (refusedPlan (number not-image) 0 0 0) b)
 
--- the tick: 20, 11, then 12, 13, 14
+-- the tick: 20, then 11
 
--- a stepped tick leaves the state after it
-abbrev pub verdictOn : TickVerdict → State → List ℕ → Out TickAnswer
-verdictOn (Stepped a) s b = giving (steppedTick a) (writtenOn b s)
-verdictOn (Unknown k) s b = giving (refusedTick (number unknown-row) (rowNumber k)) b
-verdictOn NoneRan s b = giving (refusedTick (number none-ran) 0) b
-verdictOn (NotReady k) s b = giving (refusedTick (number not-ready) (rowNumber k)) b
-
--- the same of what the dispatcher gives
+-- a tick leaves the state after it
 abbrev pub tickedOn : Ticked → List ℕ → Out TickAnswer
-tickedOn r b = verdictOn (r .verdict) (r .state) b
+tickedOn r b = giving (steppedTick (r .answer)) (writtenOn b (r .state))
 
 -- a block that is no image is refused 11
 abbrev pub tickDecoded : Decoded → List ℕ → ℕ → ℕ → Out TickAnswer
 tickDecoded x b set flags =
-    cond (x .ok) (tickedOn (tickIn (x .rows) (x .state) set (doneFlag flags) (softFlag flags)) b) (giving (refusedTick (number not-image) 0) b)
+    cond (x .ok) (tickedOn (tickIn (x .rows) (x .state) set (doneFlag flags) (softFlag flags)) b) (giving (refusedTick (number not-image)) b)
 
 -- the whole tick: the flags first
 unfoldable pub tickBlock : List ℕ → ℕ → ℕ → Out TickAnswer
-tickBlock b set flags = cond (otherFlag flags) (giving (refusedTick (number unknown-flag) 0) b) (tickDecoded (decodedOf b) b set flags)
+tickBlock b set flags = cond (otherFlag flags) (giving (refusedTick (number unknown-flag)) b) (tickDecoded (decodedOf b) b set flags)
 
 -- the offer: 11, then 15, 16, 17, 18
 

@@ -2,9 +2,10 @@
 use Prim.Native.Nat.{ℕ}
 use Rattle.table.specs.declared.Written.{Written}
 use Rattle.table.specs.declared.Written.the-variants.{Length, Refused}
-use Rattle.answer.specs.Numbers.{closingNumbers, runnerNumbers}
+use Rattle.answer.specs.Numbers.{closingNumbers, flagNumber, runnerNumbers}
 use Rattle.answer.specs.declared.Answer.{Answer}
 use Rattle.answer.specs.declared.ClosingNumbers.{ClosingNumbers}
+use Rattle.answer.specs.declared.Notes.{Notes}
 use Rattle.answer.specs.declared.RunnerNumbers.{RunnerNumbers}
 use Rattle.board.specs.declared.OfferAnswer.{OfferAnswer}
 use Rattle.board.specs.declared.PlanAnswer.{PlanAnswer}
@@ -14,13 +15,15 @@ use Rattle.board.specs.declared.TickAnswer.{TickAnswer}
 -- the tick's answer
 
 -- of an accepted tick, field by field
-abbrev pub tickNumbers : ℕ → RunnerNumbers → ClosingNumbers → TickAnswer
-tickNumbers clock r c = record {
+abbrev pub tickNumbers : ℕ → RunnerNumbers → ClosingNumbers → Notes → TickAnswer
+tickNumbers clock r c n = record {
   clock = clock;
   ticket = r .ticket;
   «closed_ticket» = c .ticket;
+  unknown = n .unknown;
+  «not_ready» = n .«not_ready»;
   refusal = 0;
-  row = 0;
+  «none_ran» = flagNumber (n .«none_ran»);
   runner = r .kind;
   «runner_row» = r .row;
   band = r .band;
@@ -31,16 +34,18 @@ tickNumbers clock r c = record {
 
 -- of a tick that was stepped
 abbrev pub steppedTick : Answer → TickAnswer
-steppedTick a = tickNumbers (a .clock) (runnerNumbers (a .runner)) (closingNumbers (a .closing))
+steppedTick a = tickNumbers (a .clock) (runnerNumbers (a .runner)) (closingNumbers (a .closing)) (a .notes)
 
--- of a refused tick: the number, and for 12 and 14 the row
-abbrev pub refusedTick : ℕ → ℕ → TickAnswer
-refusedTick refusal row = record {
+-- of a refused tick: the number
+abbrev pub refusedTick : ℕ → TickAnswer
+refusedTick refusal = record {
   clock = 0;
   ticket = 0;
   «closed_ticket» = 0;
+  unknown = 0;
+  «not_ready» = 0;
   refusal = refusal;
-  row = row;
+  «none_ran» = 0;
   runner = 0;
   «runner_row» = 0;
   band = 0;

@@ -1,74 +1,39 @@
 -- What a kernel may rely on, over blocks: calls on the block that planning left, each given the block that the last one left. Assumes nothing.
 -- A block is a list of bytes, and everything is counted from the answers of the exported functions (specs/Blocks.antt).
-use Prim.Native.Nat.{ℕ, _-_, _%_, _^_, _≤_, _<_}
-use mathlib.Core.Bool.{true, cond}
+use Prim.Native.Nat.{ℕ, _%_, _^_, _≤_, _<_}
+use mathlib.Core.Bool.{true, false, not, _&&_}
 use mathlib.Core.List.{List, [], _∷_, _++_, map}
 use mathlib.Core.Logic.{_⊎_}
-use mathlib.Core.Option.{some}
+use mathlib.Core.Option.{Option, none, some}
 use mathlib.Core.Path.{_≡_}
-use lib.Dec.{eqb}
-use lib.ListN.{drop, getD, getElem?, length, take}
+use lib.Dec.{leb}
+use lib.ListN.{drop, getElem?, length, take}
 use Rattle.rules.specs.Bound.{PlannedRow, unplanned}
-use Rattle.rules.specs.Calls.{AllShort, Call, Reply, Reported, Short, acceptances, answered, count, doneFlag, namesRow, namesTicket, offer-call, refused, releases, replies, returns, tick-call, ticks, took}
+use Rattle.rules.specs.Calls.{AllShort, Call, Reply, Reported, Short, acceptances, answered, count, doneFlag, lastRelease, namesRow, namesTicket, offer-call, releases, replies, returns, softFlag, step, tick-call, ticks, took}
 use Rattle.rules.specs.File.{Field, fieldBytes, planFields, read, read-as, scan, unread, whole}
-use Rattle.rules.specs.Refusals.{B-zero, C-over-D, C-zero, D-over-T, M-zero, R-M-over-D, Refusal, Refused, after-end, atRow, bad-rank, cut, d-under-B, none-ran, not-image, not-ready, number, passes-D, queue-full, refusal, room-short, row-17, small-output, unknown-flag, unknown-row, unknown-tag, wrong-length}
+use Rattle.rules.specs.Promise.{NotesAre, restedBy}
+use Rattle.rules.specs.Refusals.{Refused, number, small-output}
 use Rattle.rules.specs.Rows.{Row, deadline}
 use Rattle.rules.specs.Image.{isImage}
 use Rattle.rules.specs.Station.{Station, freshStation}
 use Rattle.rules.specs.Tables.{Bytes}
-use Rattle.rules.specs.Tick.{Answer, Closing, How, Runner, bit, closedAs, done, firm, firm-job, hard, hard-job, idle, lower, nothing, soft, spent, upper}
+use Rattle.rules.specs.Tick.{Answer, bit, closedAs, done, firm-job, hard-job, opens}
 use Rattle.answer.specs.Numbers.{rowNumber}
 use Rattle.block.specs.Places.{block-bytes}
 use Rattle.block.specs.Tests.{decodedOf}
-use Rattle.board.specs.declared.OfferAnswer.{OfferAnswer}
-use Rattle.board.specs.declared.TickAnswer.{TickAnswer}
 use Rattle.board.specs.Numbers.{refusedTable}
 use Rattle.board.specs.Blocks.{giving, offerBlock, planBlock, tableBlock, tickBlock}
-
--- THE ANSWERS, read as document 01's replies
-
--- the refusals 1 to 22
-abbrev pub refusals : List Refusal
-refusals =
-    cut ∷ unknown-tag ∷ wrong-length ∷ after-end ∷ row-17 ∷ C-zero ∷ C-over-D ∷ D-over-T ∷ bad-rank ∷ passes-D
-    ∷ not-image ∷ unknown-row ∷ none-ran ∷ not-ready ∷ B-zero ∷ d-under-B ∷ queue-full ∷ room-short ∷ small-output ∷ unknown-flag
-    ∷ M-zero ∷ R-M-over-D ∷ []
-
--- the refusal of a number
-abbrev pub named : ℕ → Refusal
-named n = getD refusals (n - 1) cut
-
--- who runs
-abbrev pub runnerRead : TickAnswer → Runner
-runnerRead a =
-    cond (eqb (a .runner) 1) (hard (a .«runner_row» - 1) (cond (eqb (a .band) 1) upper lower))
-    (cond (eqb (a .runner) 2) (firm (a .ticket))
-    (cond (eqb (a .runner) 3) soft idle))
-
--- how it closed
-abbrev pub howRead : TickAnswer → How
-howRead a = cond (eqb (a .closing) 1) done spent
-
--- what closed
-abbrev pub closingRead : TickAnswer → Closing
-closingRead a =
-    cond (eqb (a .closed) 1) (hard-job (a .«closed_row» - 1) (howRead a))
-    (cond (eqb (a .closed) 2) (firm-job (a .«closed_ticket») (howRead a)) nothing)
-
--- of a tick
-abbrev pub tickReply : TickAnswer → Reply
-tickReply a =
-    cond (eqb (a .refusal) 0) (answered (record { at = a .clock; runner = runnerRead a; closing = closingRead a }))
-    (refused (atRow (named (a .refusal)) (a .row - 1)))
-
--- of an offer
-abbrev pub offerReply : OfferAnswer → Reply
-offerReply a = cond (eqb (a .refusal) 0) (took (a .ticket)) (refused (refusal (named (a .refusal))))
+use Rattle.board.specs.Replies.{offerReply, tickReply}
 
 -- CALLS ON A BLOCK, one after the other
 
+-- a reply, if there is one, before others
+abbrev pub then : Option Reply → List Reply → List Reply
+then none rs = rs
+then (some r) rs = r ∷ rs
+
 -- the reply to a call
-abbrev pub replyOn : List ℕ → Call → Reply
+abbrev pub replyOn : List ℕ → Call → Option Reply
 replyOn b (tick-call set flags) = tickReply (tickBlock b set flags .answer)
 replyOn b (offer-call B d) = offerReply (offerBlock b B d .answer)
 
@@ -77,10 +42,10 @@ abbrev pub blockOn : List ℕ → Call → List ℕ
 blockOn b (tick-call set flags) = tickBlock b set flags .block
 blockOn b (offer-call B d) = offerBlock b B d .block
 
--- the replies to calls, in order
+-- the replies to calls, in order; an answer that is no reply adds none
 abbrev pub blockReplies : List ℕ → List Call → List Reply
 blockReplies b [] = []
-blockReplies b (c ∷ cs) = replyOn b c ∷ blockReplies (blockOn b c) cs
+blockReplies b (c ∷ cs) = then (replyOn b c) (blockReplies (blockOn b c) cs)
 
 -- the block after all of them
 abbrev pub blockAfter : List ℕ → List Call → List ℕ
@@ -94,10 +59,13 @@ pub record Untouched : Type 0 where
   pub offer-refused : (b : List ℕ) (B d : ℕ) → (offerBlock b B d .answer .refusal ≡ 0 → ⊥) → offerBlock b B d .block ≡ b
   pub table-refused : (b out : List ℕ) → (tableBlock b out .answer .refusal ≡ 0 → ⊥) → tableBlock b out .block ≡ out
 
--- DEMAND 2, of any bytes that decode accepts: they are a state of document 01's conditions, and the replies are those of its dispatcher
+-- DEMAND 2, of any bytes that decode accepts: they are a state of document 01's conditions, the replies are those of its dispatcher, and a
+-- tick notes and does what `noted` says of it
 abbrev pub AnyBlock : Type 0
 AnyBlock = (b : List ℕ) → Bytes b → decodedOf b .ok ≡ true
     → (st : Station) × (isImage st ≡ true) × ((cs : List Call) → AllShort cs → blockReplies b cs ≡ replies st cs)
+    × ((set flags : ℕ) (x : Answer) → Short (tick-call set flags) → replyOn b (tick-call set flags) ≡ some (answered x)
+    → NotesAre st set (doneFlag flags) (softFlag flags) (record { station = step st (tick-call set flags) .station; answer = x }))
 
 -- accepted, or refused with 10, 22, 11 or 19
 abbrev pub TableNumber : ℕ → Type 0
@@ -139,22 +107,29 @@ pub record OnBlocks (file : List ℕ) (ps : List PlannedRow) (b : List ℕ) : Ty
   pub offer-not-11 : (before : List Call) → AllShort before → (B d : ℕ) → offerBlock (blockAfter b before) B d .answer .refusal ≡ 11 → ⊥
   -- DEMAND 2: the replies are those of document 01's dispatcher
   pub replies-are : (cs : List Call) → AllShort cs → blockReplies b cs ≡ replies (freshStation ps) cs
-  -- DEMAND 3: a tick that is answered keeps its promise to every row that it releases ..
+  -- DEMAND 3: a tick that is answered keeps its promise to every row that it releases, one whose bit is set and not noted ..
   pub hard-jobs : (before : List Call) → AllShort before → (set flags k : ℕ) (r : Row) (x : Answer) → Short (tick-call set flags)
-      → bit set k ≡ true → getElem? (map (λ p. p .row) ps) k ≡ some r → replyOn (blockAfter b before) (tick-call set flags) ≡ answered x
+      → getElem? (map (λ p. p .row) ps) k ≡ some r → replyOn (blockAfter b before) (tick-call set flags) ≡ some (answered x) → opens set (x .notes) k ≡ true
       → HardOnBlock k r (blockOn (blockAfter b before) (tick-call set flags)) x
   -- .. and an offer that is accepted to its upload
   pub uploads : (before : List Call) → AllShort before → (B d t : ℕ) → Short (offer-call B d)
-      → replyOn (blockAfter b before) (offer-call B d) ≡ took t
+      → replyOn (blockAfter b before) (offer-call B d) ≡ some (took t)
       → UploadOnBlock B d (blockOn (blockAfter b before) (offer-call B d)) t
-  -- a job is reported done only if the done flag says so
+  -- a job is reported done only if the done flag says so, and is not noted
   pub done-told : (before : List Call) → AllShort before → (set flags : ℕ) (x : Answer) → Short (tick-call set flags)
-      → replyOn (blockAfter b before) (tick-call set flags) ≡ answered x → closedAs (x .closing) ≡ some done → doneFlag flags ≡ true
+      → replyOn (blockAfter b before) (tick-call set flags) ≡ some (answered x) → closedAs (x .closing) ≡ some done
+      → (doneFlag flags ≡ true) × (x .notes .none-ran ≡ false)
+  -- NOTES: 12 lists the set bits of rows that the table doesn't have, and 14 those of rows whose last release is fewer than T ticks ago
+  pub unknown-noted : (before : List Call) → AllShort before → (set flags k : ℕ) (x : Answer) → Short (tick-call set flags)
+      → replyOn (blockAfter b before) (tick-call set flags) ≡ some (answered x) → bit (x .notes .unknown) k ≡ (bit set k && leb (length ps) k)
+  pub not-ready-noted : (before : List Call) → AllShort before → (set flags k : ℕ) (r : Row) (x : Answer) → Short (tick-call set flags)
+      → getElem? (map (λ p. p .row) ps) k ≡ some r → replyOn (blockAfter b before) (tick-call set flags) ≡ some (answered x)
+      → bit (x .notes .not-ready) k ≡ (bit set k && not (restedBy (ticks (blockReplies b before)) (lastRelease k 0 none before (blockReplies b before)) r))
   -- the clock in an answer is the number of ticks stepped before it, and a ticket the number of acceptances, modulo 2^32
   pub clock-is : (before : List Call) → AllShort before → (set flags : ℕ) (x : Answer) → Short (tick-call set flags)
-      → replyOn (blockAfter b before) (tick-call set flags) ≡ answered x → x .at ≡ ticks (blockReplies b before) % 2 ^ 32
+      → replyOn (blockAfter b before) (tick-call set flags) ≡ some (answered x) → x .at ≡ ticks (blockReplies b before) % 2 ^ 32
   pub ticket-is : (before : List Call) → AllShort before → (B d t : ℕ) → Short (offer-call B d)
-      → replyOn (blockAfter b before) (offer-call B d) ≡ took t → t ≡ acceptances (blockReplies b before) % 2 ^ 32
+      → replyOn (blockAfter b before) (offer-call B d) ≡ some (took t) → t ≡ acceptances (blockReplies b before) % 2 ^ 32
   -- the table comes back as the file, byte for byte, and bytes after it stay; an output that is shorter is refused 19
   pub table-back : (before : List Call) → AllShort before → (out : List ℕ) → length file ≤ length out
       → tableBlock (blockAfter b before) out ≡ giving (record { size = length file; refusal = 0 }) (file ++ drop (length file) out)

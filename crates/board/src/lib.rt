@@ -5,7 +5,6 @@ ghost use Rattle.answer.specs.Below.{AnswerBelow};
 ghost use Rattle.board.specs.Numbers.{refusedPlan, refusedTick, steppedTick};
 ghost use Rattle.board.specs.Blocks.{planBlock, tickBlock, offerBlock, tableBlock};
 use answer::Answer;
-use dispatch::TickVerdict;
 use offer::Offered;
 use table::FileRefusal;
 use table::FileVerdict;
@@ -20,7 +19,7 @@ pub struct PlanAnswer {
     pub row: u8,
 }
 
-// refusal: 0, or document 01's number. row: of 12 and 14, else 0.
+// refusal: 0, or document 01's number: 11 or 20. The notes: unknown has the bits of 12, none_ran is 1 for 13, not_ready has the bits of 14.
 // runner: 1 hard, with its row and band (1 upper, 2 lower), 2 firm, with its ticket, 3 soft, 4 idle.
 // closed: 0 nothing, 1 hard, with its row, 2 firm, with its ticket; closing: 1 done, 2 spent. A refusal has 0 in every other field.
 #[repr(C)]
@@ -28,8 +27,10 @@ pub struct TickAnswer {
     pub clock: u32,
     pub ticket: u32,
     pub closed_ticket: u32,
+    pub unknown: u16,
+    pub not_ready: u16,
     pub refusal: u8,
-    pub row: u8,
+    pub none_ran: u8,
     pub runner: u8,
     pub runner_row: u8,
     pub band: u8,
@@ -85,33 +86,26 @@ pub extern "C" fn heechstjer_plan(block: &mut [u8], table: &[u8]) -> PlanAnswer
     }
 }
 
-// One tick: 20, 11, 12, 13, 14. A refusal leaves the block as it was.
+// One tick: 20, 11; 12, 13 and 14 are noted in the answer. A refusal leaves the block as it was.
 #[no_mangle]
 pub extern "C" fn heechstjer_tick(block: &mut [u8], set: u16, flags: u8) -> TickAnswer
     ensures { λ r. ⌜ r ≡ tickBlock (now (block .entry)) set flags .answer ⌝ }
     ensures { λ _. ⌜ now (block .exit) ≡ tickBlock (now (block .entry)) set flags .block ⌝ }
 {
     if 4 <= flags {
-        return refused_tick(20, 0);
+        return refused_tick(20);
     }
     let decoded = block::decode(block);
     if decoded.ok {
         let rows = decoded.rows;
         let state = decoded.state;
         let ticked = dispatch::tick(rows, state, set, done_flag(flags), soft_flag(flags));
-        let verdict = ticked.verdict;
-        match verdict {
-            TickVerdict::Stepped(answer) => {
-                let next = ticked.state;
-                block::write_state(next, block);
-                stepped_tick(answer)
-            }
-            TickVerdict::Unknown(k) => refused_tick(12, answer::row_number(k)),
-            TickVerdict::NoneRan => refused_tick(13, 0),
-            TickVerdict::NotReady(k) => refused_tick(14, answer::row_number(k)),
-        }
+        let answer = ticked.answer;
+        let next = ticked.state;
+        block::write_state(next, block);
+        stepped_tick(answer)
     } else {
-        refused_tick(11, 0)
+        refused_tick(11)
     }
 }
 
@@ -189,15 +183,17 @@ fn soft_flag(flags: u8) -> bool
     flags / 2 % 2 == 1
 }
 
-fn refused_tick(refusal: u8, row: u8) -> TickAnswer
-    ensures { λ r. ⌜ r ≡ refusedTick refusal row ⌝ }
+fn refused_tick(refusal: u8) -> TickAnswer
+    ensures { λ r. ⌜ r ≡ refusedTick refusal ⌝ }
 {
     TickAnswer {
         clock: 0,
         ticket: 0,
         closed_ticket: 0,
+        unknown: 0,
+        not_ready: 0,
         refusal,
-        row,
+        none_ran: 0,
         runner: 0,
         runner_row: 0,
         band: 0,
@@ -213,14 +209,17 @@ fn stepped_tick(answer: Answer) -> TickAnswer
 {
     let runner = answer.runner;
     let closing = answer.closing;
+    let notes = answer.notes;
     let runs = answer::runner_numbers(runner);
     let closes = answer::closing_numbers(closing);
     TickAnswer {
         clock: answer.clock,
         ticket: runs.ticket,
         closed_ticket: closes.ticket,
+        unknown: notes.unknown,
+        not_ready: notes.not_ready,
         refusal: 0,
-        row: 0,
+        none_ran: answer::flag_number(notes.none_ran),
         runner: runs.kind,
         runner_row: runs.row,
         band: runs.band,

@@ -1,5 +1,4 @@
 pub mod Loops
-pub mod Ways
 pub mod Arrays
 pub mod RefineClose
 pub mod RefineRelease
@@ -7,6 +6,5 @@ pub mod RefineChoose
 pub mod RefineAdvance
 pub mod RefineRun
 pub mod Refine
-pub mod VerdictNumbers
 pub mod NamedRows
 pub mod OneResult

@@ -1,28 +1,25 @@
--- Whatever the arrays hold, the rows that a tick's verdict names are below 16. Assumes nothing.
+-- Whatever the arrays hold, the rows that a tick's answer names are below 16. Assumes nothing.
 use Prim.Native.Nat.{ℕ, zero, suc, _+_, _<_, _≤_}
 use mathlib.Core.Bool.{Bool, true, false, cond}
 use mathlib.Core.List.{List}
-use mathlib.Core.Path.{_≡_, ap, refl, subst, sym, _∙_}
+use mathlib.Core.Path.{_≡_, ap, refl, subst, sym}
 use native.Mathlib.Omega.{arith}
-use lib.Bits.{bitAnd, bitOr}
+use lib.Bits.{bitAnd}
 use lib.Dec.{eqb, ltb}
 use borrow.Author.Tests.{ltb-true}
 use Rattle.rules.specs.Tick.{bit}
 use Rattle.state.specs.declared.Rows.{Rows}
 use Rattle.state.specs.declared.State.{State}
 use Rattle.state.specs.Meaning.{entry}
-use Rattle.state.specs.Sets.{known, least, others}
+use Rattle.state.specs.Sets.{least, others}
 use Rattle.answer.specs.declared.Closing.the-variants.{FirmDone, FirmSpent, HardDone, HardSpent, Nothing}
 use Rattle.answer.specs.declared.Runner.the-variants.{Firm, Hard, Idle, Soft}
 use Rattle.answer.specs.declared.Band.the-variants.{Lower, Upper}
-use Rattle.answer.specs.Below.{ClosingBelow, RunnerBelow}
+use Rattle.answer.specs.Below.{AnswerBelow, ClosingBelow, RunnerBelow}
 use Rattle.dispatch.specs.declared.Ticked.{Ticked}
-use Rattle.dispatch.specs.declared.TickVerdict.{TickVerdict}
-use Rattle.dispatch.specs.declared.TickVerdict.the-variants.{NoneRan, NotReady, Unknown}
 use Rattle.dispatch.specs.declared.sets.Best.{Best}
-use Rattle.dispatch.specs.Verdicts.{VerdictBelow}
 use Rattle.dispatch.specs.Loops.{foldRows, lowAt, noBest}
-use Rattle.dispatch.specs.Steps.{chosenIn, closedBy, closingIn, lowerOf, promotedRows, readied, releasedBy, steppedIn, tickIn}
+use Rattle.dispatch.specs.Steps.{askedIn, chosenIn, closedBy, closingIn, lowerOf, promotedRows, releasedBy, steppedIn, tickIn, unreadyIn}
 
 closing-below : (rows : Rows) (s : State) (d : Bool) → ClosingBelow (closingIn rows s d)
 closing-below rows s d =
@@ -78,23 +75,12 @@ chosen-below rows s soft =
     let lowest = fold-below low (low-below (rows .table .rank) (s .«open»)) 0 16 noBest (omega arith) (λ q. absurd (omega arith)) in
     choice-below (least (promotedRows rows s)) (entry (s .ticket) 0) (foldRows low 0 16 noBest) lowest (ltb (least (promotedRows rows s)) 16) refl (ltb 0 (s .count)) soft
 
-checks-below : (i j : ℕ) (a : Bool) → ltb i 16 ≡ a → (b c : Bool) → ltb j 16 ≡ c → (s : State) (r : Ticked) → VerdictBelow (r .verdict)
-    → VerdictBelow (cond a (record { verdict = Unknown i; state = s }) (cond b (record { verdict = NoneRan; state = s }) (cond c (record { verdict = NotReady j; state = s }) r)) .verdict)
-checks-below i j true e b c f s r h = ltb-true i 16 e
-checks-below i j false e true c f s r h = tt
-checks-below i j false e false true f s r h = ltb-true j 16 f
-checks-below i j false e false false f s r h = h
-
-tick-below : (rows : Rows) (s : State) (set : ℕ) (d soft : Bool) → VerdictBelow (tickIn rows s set d soft .verdict)
-unfolding tickIn readied steppedIn
+tick-below : (rows : Rows) (s : State) (set : ℕ) (d soft : Bool) → AnswerBelow (tickIn rows s set d soft .answer)
+unfolding tickIn steppedIn
 tick-below rows s set d soft =
-    let closing = closingIn rows s d in
-    let t = closedBy s closing in
-    let unknown = least (bitAnd set (others (known (rows .table .n)))) in
-    let unready = least (bitAnd set (bitOr (t .«open») (others (t .rested)))) in
-    checks-below unknown unready (ltb unknown 16) refl (cond d (ltb 16 (s .last)) false) (ltb unready 16) refl s (steppedIn rows t set soft closing)
-    (chosen-below rows (releasedBy t set) soft, closing-below rows s d)
+    let t = closedBy s (closingIn rows s d) in
+    (chosen-below rows (releasedBy t (bitAnd (askedIn rows set) (others (unreadyIn t)))) soft, closing-below rows s d)
 
--- a tick that was made, and its verdict
-pub verdict-below : (rows : Rows) (s : State) (set : ℕ) (d soft : Bool) {r : Ticked} {v : TickVerdict} → r ≡ tickIn rows s set d soft → r .verdict ≡ v → VerdictBelow v
-verdict-below rows s set d soft e is = subst VerdictBelow (sym (ap (λ r. r .verdict) e) ∙ is) (tick-below rows s set d soft)
+-- a tick that was made
+pub answer-below : (rows : Rows) (s : State) (set : ℕ) (d soft : Bool) {r : Ticked} → r ≡ tickIn rows s set d soft → AnswerBelow (r .answer)
+answer-below rows s set d soft e = subst AnswerBelow (sym (ap (λ r. r .answer) e)) (tick-below rows s set d soft)

@@ -5,12 +5,7 @@ use Rattle.rules.specs.OneResult.{One}
 use Rattle.rules.proofs.OneResult.{one-result}
 use Rattle.state.specs.declared.Rows.{Rows}
 use Rattle.state.specs.declared.State.{State}
-use Rattle.dispatch.specs.Verdicts.{tickNumber}
 use Rattle.dispatch.specs.Steps.{tickIn}
-use Rattle.dispatch.specs.declared.TickVerdict.{TickVerdict}
 
 pub tick : (rows : Rows) (s : State) (set : ℕ) (done soft : Bool) → One (tickIn rows s set done soft)
 tick rows s set done soft = one-result
-
-pub tick-number : (verdict : TickVerdict) → One (tickNumber verdict)
-tick-number verdict = one-result

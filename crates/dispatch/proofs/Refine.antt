@@ -1,20 +1,22 @@
 -- The tick in memory is the rules' tick: on every state that a block may hold, and for every call. Assumes nothing.
-use Prim.Native.Nat.{ℕ, suc, _-_, _^_, _<_, _≤_}
+use Prim.Native.Nat.{ℕ, zero, suc, _+_, _-_, _^_, _<_, _≤_}
 use mathlib.Core.Bool.{Bool, true, false, not, cond, _&&_, _||_}
 use mathlib.Core.List.{_∷_}
 use mathlib.Core.Option.{Option·map, none, some}
 use mathlib.Core.Path.{_≡_, refl, sym, _∙_, ap, ap₂, subst}
 use native.Mathlib.Omega.{arith}
 use native.Mathlib.Decide.{decLt}
-use lib.Bits.{bitAnd, bitOr}
+use lib.Bits.{and-le-l, bitAnd, or-lt}
+use lib.ListN.{getElem?, length}
+use native.Mathlib.Nat.{add-suc, add-zero, lt-of-le-of-lt, suc-add, zero-add}
 use lib.Dec.{eqb, ltb}
-use borrow.Author.Tests.{eq-eqb, eqb-false, eqb-true, le-ltb, lt-ltb, ltb-false, ltb-true, ne-eqb}
-use Rattle.rules.specs.Lists.{All, find, firstOf, orElse, unless}
-use Rattle.rules.specs.Refusals.{atRow, none-ran, not-ready, refusal, unknown-row}
+use borrow.Author.Tests.{eq-eqb, eqb-false, eqb-true, le-ltb, lt-ltb, ltb-false, ltb-true, ne-eqb, not-true}
+use Rattle.rules.specs.Lists.{All}
 use Rattle.rules.specs.Station.{Station, closed, firm-of, isOpen, nobody, opened, rested, row-at}
-use Rattle.rules.specs.Tick.{bit, choose, close, no-tick, noneRan, release, released, tick, ticked, unknown, unready}
+use Rattle.rules.specs.Tick.{bit, choose, close, noneRan, notesOf, opens, release, released, tick, unknownBits, unready}
 use Rattle.rules.specs.Tick as rules
-use Rattle.rules.specs.Promise.{OnTicked}
+use Rattle.rules.proofs.Bits.{bit-above, same-bits, set-at, set-past}
+use Rattle.rules.proofs.Bools.{and-true}
 use Rattle.rules.proofs.Close.{close-good, close-live, close-queue, close-unspent, without-all}
 use Rattle.rules.proofs.Facts.{Good, Paid, Unspent}
 use Rattle.rules.proofs.Image.{Image, tick-image}
@@ -31,13 +33,12 @@ use Rattle.state.proofs.Agrees.{Agrees}
 use Rattle.state.proofs.Bits.{bit-and, bit-known, bit-or, bit-others, bit-past, first-least, found, known-lt, least-below}
 use Rattle.state.proofs.Positions.{all-rows, find-least, first-row, length-rows}
 use Rattle.state.proofs.Widths.{U-le, image-of, positive, row-good, thin}
-use Rattle.state.proofs.Bools.{and-yes, leb-ltb}
+use Rattle.state.proofs.Bools.{and-no, and-yes, leb-ltb}
 use Rattle.answer.specs.Answers.{answerOf, runnerOf}
+use Rattle.answer.specs.Answers as answers
 use Rattle.dispatch.specs.declared.Ticked.{Ticked}
-use Rattle.dispatch.specs.declared.TickVerdict.the-variants.{NoneRan, NotReady, Stepped, Unknown}
-use Rattle.dispatch.specs.Verdicts.{verdictOf}
 use Rattle.dispatch.specs.Refines.{TickRefines}
-use Rattle.dispatch.specs.Steps.{advanced, closedBy, closingIn, ranIn, readied, releasedBy, steppedIn, tickIn}
+use Rattle.dispatch.specs.Steps.{advanced, askedIn, closedBy, closingIn, notesIn, ranIn, releasedBy, steppedIn, tickIn, unreadyIn}
 use Rattle.dispatch.proofs.Arrays.{bit-minus}
 use Rattle.dispatch.proofs.RefineChoose.{choose-refines}
 use Rattle.dispatch.proofs.RefineClose.{close-refines, first-others}
@@ -45,13 +46,14 @@ use Rattle.dispatch.proofs.RefineRelease.{release-kept, release-refines
 use Rattle.dispatch.proofs.RefineRun.{run-refines}
 
 -- as TickRefines, but for the image
-abbrev Steps : Rows → State → rules.Ticked → Ticked → Type 0
-Steps rows s (ticked st x) r = (r .verdict ≡ Stepped (answerOf x)) × (stationOf rows (r .state) ≡ st) × Kept rows (r .state)
-Steps rows s (no-tick y) r = (r .verdict ≡ verdictOf y) × (r .state ≡ s)
+abbrev Steps : Rows → rules.Outcome → Ticked → Type 0
+Steps rows o r = (r .answer ≡ answerOf (o .answer)) × (stationOf rows (r .state) ≡ o .station) × Kept rows (r .state)
 
-with-image : (rows : Rows) (s : State) (T : rules.Ticked) (r : Ticked) → OnTicked (λ st x. Image st) T → Steps rows s T r → TickRefines rows s T r
-with-image rows s (no-tick y) r i h = h
-with-image rows s (ticked st x) r i (v, e, k) = (v, e, record { kept = k; image = rw e (image-iff st .1 i) })
+get-row : {A : Type 0} (g : ℕ → A) (i j k : ℕ) → j < k → getElem? (rowsFrom g i k) j ≡ some (g (i + j))
+unfolding rowsFrom
+get-row g i j zero h = absurd (omega arith)
+get-row g i zero (suc k) h = rw (add-zero i) refl
+get-row g i (suc j) (suc k) h = rw (add-suc i j, ← suc-add i j) (get-row g (suc i) j k (omega arith))
 
 module _ (rows : Rows) (s : State) (S : Stored rows s) (set : ℕ) (small : set < 2 ^ 16) where
   abbrev st : Station
@@ -71,36 +73,22 @@ module _ (rows : Rows) (s : State) (S : Stored rows s) (set : ℕ) (small : set 
   bit-unknown : (j : ℕ) → bit unknownRows j ≡ (bit set j && not (ltb j (rows .table .n)))
   bit-unknown j = bit-minus set (known (rows .table .n)) small (known-lt (rows .table .n)) j ∙ rw (bit-known (rows .table .n) j few)
 
-  unknown-is : firstOf (unknown (slotsOf rows s) set) 0 16 ≡ found (least unknownRows)
-  unknown-is = first-least unknownRows (unknown (slotsOf rows s) set) (λ j l. bit-unknown j ∙ rw (length-rows (slotAt rows s) 0 (rows .table .n), leb-ltb (rows .table .n) j))
-
-  all-known : 16 ≤ least unknownRows → (j : ℕ) → rows .table .n ≤ j → bit set j ≡ false
-  all-known h j l = go (decLt j 16)
-    where
-      go : Dec (j < 16) → bit set j ≡ false
-      go (yes m) = sym (bit-unknown j ∙ rw (le-ltb j (rows .table .n) l) (and-yes (bit set j))) ∙ least-below unknownRows j (omega arith)
-      go (no m) = bit-past 16 set j small (omega arith)
+  unknown-is : unknownRows ≡ unknownBits (length (slotsOf rows s)) set
+  unknown-is = same-bits unknownRows (unknownBits (length (slotsOf rows s)) set) (λ j.
+      bit-unknown j ∙ sym (bit-above (length (slotsOf rows s)) set j ∙ rw (length-rows (slotAt rows s) 0 (rows .table .n), leb-ltb (rows .table .n) j)))
 
   -- 13
-  none-ran-is : (d : Bool) → noneRan (lastOf s) d ≡ cond d (ltb 16 (s .last)) false
+  none-ran-is : (d : Bool) → noneRan (lastOf s) d ≡ (d && ltb 16 (s .last))
   none-ran-is d = go (ltb (s .last) 16) refl (eqb (s .last) 16) refl
     where
-      neither : (d : Bool) → cond d false false ≡ false
-      neither true = refl
-      neither false = refl
-
-      itself : (d : Bool) → cond d true false ≡ d
-      itself true = refl
-      itself false = refl
-
       go : (a : Bool) → ltb (s .last) 16 ≡ a → (b : Bool) → eqb (s .last) 16 ≡ b
-          → noneRan (cond a (row-at (s .last)) (cond b (firm-of (entry (s .ticket) 0)) nobody)) d ≡ cond d (ltb 16 (s .last)) false
-      go true p b q = let l : s .last < 16 = ltb-true (s .last) 16 p in rw (le-ltb 16 (s .last) (omega arith)) (sym (neither d))
-      go false p true q = let l : s .last ≡ 16 = eqb-true (s .last) 16 q in rw (le-ltb 16 (s .last) (omega arith)) (sym (neither d))
+          → noneRan (cond a (row-at (s .last)) (cond b (firm-of (entry (s .ticket) 0)) nobody)) d ≡ (d && ltb 16 (s .last))
+      go true p b q = let l : s .last < 16 = ltb-true (s .last) 16 p in rw (le-ltb 16 (s .last) (omega arith)) (sym (and-no d))
+      go false p true q = let l : s .last ≡ 16 = eqb-true (s .last) 16 q in rw (le-ltb 16 (s .last) (omega arith)) (sym (and-no d))
       go false p false q =
           let l : 16 ≤ s .last = ltb-false (s .last) 16 p in
           let n : s .last ≡ 16 → ⊥ = eqb-false (s .last) 16 q in
-          rw (lt-ltb 16 (s .last) (omega arith)) (sym (itself d))
+          rw (lt-ltb 16 (s .last) (omega arith)) (sym (and-yes d))
 
   module _ (d : Bool) where
     abbrev c : Station
@@ -118,9 +106,6 @@ module _ (rows : Rows) (s : State) (S : Stored rows s) (set : ℕ) (small : set 
 
     -- 14
 
-    abbrev unreadyRows : ℕ
-    unreadyRows = bitAnd set (bitOr (t .«open») (others (t .rested)))
-
     rested-is : (j : ℕ) → j < rows .table .n → rested (slotAt rows t j) ≡ bit (t .rested) j
     rested-is j h = go (bit (t .rested) j) refl
       where
@@ -128,107 +113,132 @@ module _ (rows : Rows) (s : State) (S : Stored rows s) (set : ℕ) (small : set 
         go true e = eq-eqb (entry (rows .table .t) j - entry (rows .table .t) j) 0 (omega arith)
         go false e = let l = t-kept .times .young j h e in ne-eqb (entry (rows .table .t) j - wrapped (t .clock) (entry (t .stamp) j)) 0 (λ z. omega arith)
 
-    bit-unready : (j : ℕ) → j < rows .table .n → bit unreadyRows j ≡ unready set j (slotAt rows t j)
+    abbrev n : rules.Notes
+    n = notesOf st set d
+
+    asked-is : (j : ℕ) → bit (askedIn rows set) j ≡ (bit set j && ltb j (rows .table .n))
+    asked-is j = bit-and set (known (rows .table .n)) j ∙ rw (bit-known (rows .table .n) j few)
+
+    -- of a row that is there
+    bit-unready : (j : ℕ) → j < rows .table .n → bit (unreadyIn t) j ≡ not (rested (slotAt rows t j) && not (isOpen (slotAt rows t j .job)))
     bit-unready j h =
         rw (
-          bit-and set (bitOr (t .«open») (others (t .rested))) j,
           bit-or (t .«open») (others (t .rested)) j,
           bit-others (t .rested) j (t-kept .times .rested-lt) (omega (arith, few)),
           rested-is j h,
         )
-        (go (bit set j) (bit (t .«open») j) (bit (t .rested) j))
+        (go (bit (t .«open») j) (bit (t .rested) j))
       where
-        go : (b o r : Bool) → (b && (o || not r)) ≡ (b && not (r && not (isOpen (cond o (opened (entry (t .run) j)) closed))))
-        go false o r = refl
-        go true true true = refl
-        go true true false = refl
-        go true false true = refl
-        go true false false = refl
+        go : (o r : Bool) → (o || not r) ≡ not (r && not (isOpen (cond o (opened (entry (t .run) j)) closed)))
+        go true true = refl
+        go true false = refl
+        go false true = refl
+        go false false = refl
 
-    module _ (set-known : (j : ℕ) → rows .table .n ≤ j → bit set j ≡ false) where
-      unready-is : find (unready set) 0 (c .slots) ≡ found (least unreadyRows)
-      unready-is =
-          ap (find (unready set) 0) (sym (t-agrees .slots-is))
-          ∙ find-least (unready set) (slotAt rows t) unreadyRows (rows .table .n) few bit-unready (λ j h. rw (bit-and set (bitOr (t .«open») (others (t .rested))) j, set-known j h))
+    slots-length : length (c .slots) ≡ rows .table .n
+    slots-length = ap length (sym (t-agrees .slots-is)) ∙ length-rows (slotAt rows t) 0 (rows .table .n)
 
-      module _ (all-ready : 16 ≤ least unreadyRows) where
-        ready : (j : ℕ) → j < rows .table .n → bit set j ≡ true → bit (t .«open») j ≡ false
-        ready j h e = go (bit (t .«open») j) (rw (bit-and set (bitOr (t .«open») (others (t .rested))) j, e, bit-or (t .«open») (others (t .rested)) j) at (least-below unreadyRows j (omega (arith, few))))
-          where
-            go : (o : Bool) → (o || bit (others (t .rested)) j) ≡ false → o ≡ false
-            go true q = q
-            go false q = refl
+    -- what 14 says of each row
+    bit-not-ready : (j : ℕ) → bit (n .not-ready) j ≡ ((bit set j && ltb j (rows .table .n)) && bit (unreadyIn t) j)
+    bit-not-ready j = go (decLt j (rows .table .n))
+      where
+        go : Dec (j < rows .table .n) → bit (n .not-ready) j ≡ ((bit set j && ltb j (rows .table .n)) && bit (unreadyIn t) j)
+        go (yes l) =
+            rw (zero-add j) at (set-at (unready set) 0 j (c .slots) (slotAt rows t j) (ap (λ ss. getElem? ss j) (sym (t-agrees .slots-is)) ∙ (rw (zero-add j) at (get-row (slotAt rows t) 0 j (rows .table .n) l))))
+            ∙ rw (lt-ltb j (rows .table .n) l, and-yes (bit set j), bit-unready j l)
+        go (no l) = set-past (unready set) 0 j (c .slots) (omega (arith, slots-length)) ∙ rw (le-ltb j (rows .table .n) (omega arith), and-no (bit set j))
 
-        -- the state once the set is released
-        abbrev u : State
-        u = releasedBy t set
+    not-ready-is : bitAnd (askedIn rows set) (unreadyIn t) ≡ n .not-ready
+    not-ready-is = same-bits (bitAnd (askedIn rows set) (unreadyIn t)) (n .not-ready) (λ j. bit-and (askedIn rows set) (unreadyIn t) j ∙ rw (asked-is j) (sym (bit-not-ready j)))
 
-        u-kept : Kept rows u
-        u-kept = release-kept rows t t-kept set small set-known ready (positive rows s S)
+    notes-are : notesIn rows s t set d ≡ answers.notesOf n
+    unfolding rowsFrom stationOf
+    notes-are = λ i. record { unknown = unknown-is i; «none_ran» = sym (none-ran-is d) i; «not_ready» = not-ready-is i }
 
-        u-slots : slotsOf rows u ≡ release set (c .slots)
-        u-slots = release-refines rows t t-kept set small set-known ready (positive rows s S) ∙ ap (release set) (t-agrees .slots-is)
+    -- the rows released
+    abbrev acc : ℕ
+    acc = bitAnd (askedIn rows set) (others (unreadyIn t))
 
-        unspent-all : All Unspent (slotsOf rows u)
-        unspent-all = rw u-slots (each-all (λ x. Good x × Unspent x) Unspent (λ k x. cond (bit set k) (released x) x) (λ k x. released-unspent (bit set k) x) 0 (c .slots)
-            (all-both Good Unspent (c .slots) (close-good st d (I .good)) (close-unspent st d (I .runs))))
+    asked-lt : askedIn rows set < 2 ^ 16
+    asked-lt = lt-of-le-of-lt (and-le-l set (known (rows .table .n))) small
 
-        unspent : (i : ℕ) → i < rows .table .n → bit (u .«open») i ≡ true → entry (u .run) i < 65535
-        unspent i h e =
-            let r = all-rows Unspent (slotAt rows u) 0 (rows .table .n) unspent-all i (omega arith) (omega arith) (entry (u .run) i) (rw e) in
-            omega (arith, r, row-good rows s S i h, thin rows s S i h)
+    unready-lt : unreadyIn t < 2 ^ 16
+    unready-lt = or-lt 16 (t .«open») (others (t .rested)) (t-kept .jobs .open-lt) (omega arith)
 
-        queue-is : (k : ℕ) → u .count ≡ suc k → c .firms ≡ firmAt u 0 ∷ rowsFrom (firmAt u) 1 k
-        queue-is k counted = sym (t-agrees .firms-is) ∙ first-row (firmAt u) 0 (u .count) k counted
+    bit-acc : (j : ℕ) → bit acc j ≡ ((bit set j && ltb j (rows .table .n)) && not (bit (unreadyIn t) j))
+    bit-acc j = bit-minus (askedIn rows set) (unreadyIn t) asked-lt unready-lt j ∙ rw (asked-is j)
 
-        queue : (k : ℕ) → u .count ≡ suc k → (entry (u .used) 0 < 65535) × All (Other (entry (u .ticket) 0)) (rowsFrom (firmAt u) 1 k)
-        queue k counted =
-            let e = queue-is k counted in
-            let (live, lives) = rw e at (close-live st d (I .firms)) in
-            let (paid, paids) = rw e at (close-queue (All Paid) (without-all Paid) st d (I .paid)) in
-            let q = rw e at (close-tickets st d (I .tickets)) in
-            (omega (arith, live, paid), first-others (st .next) (firmAt u 0) (rowsFrom (firmAt u) 1 k) (I .tickets .next-lt) (q .0) (q .1))
+    acc-lt : acc < 2 ^ 16
+    acc-lt = lt-of-le-of-lt (and-le-l (askedIn rows set) (others (unreadyIn t))) asked-lt
 
-        steps : (wants : Bool) → Steps rows s (rules.stepped (close st d) set wants) (steppedIn rows t set wants (closingIn rows s d))
-        unfolding steppedIn
-        steps wants =
-            let chosen = choose-refines rows u u-kept (U-le rows s S) wants in
-            let choice = ap₂ (λ ss fs. choose ss fs wants) u-slots (t-agrees .firms-is) in
-            let (ran, kept) = run-refines rows u u-kept (thin rows s S) unspent queue c (t-agrees .clock-is) (t-agrees .firms-is) (t-agrees .next-is) wants in (
-              λ i. Stepped (record { clock = t-agrees .clock-is i; runner = (chosen ∙ ap runnerOf choice) i; closing = sym (close-refines rows s S d .0) i }),
-              ap (λ x. stationOf rows (advanced rows (ranIn u x))) chosen ∙ ran ∙ ap₂ (rules.run c) u-slots choice,
-              subst (λ x. Kept rows (advanced rows (ranIn u x))) (sym chosen) kept,
-            )
+    opens-is : (j : ℕ) → bit acc j ≡ opens set n j
+    unfolding stationOf
+    opens-is j =
+        bit-acc j
+        ∙ rw (bit-above (length (slotsOf rows s)) set j, length-rows (slotAt rows s) 0 (rows .table .n), leb-ltb (rows .table .n) j, bit-not-ready j) (go (bit set j) (ltb j (rows .table .n)) (bit (unreadyIn t) j))
+      where
+        go : (b l u : Bool) → ((b && l) && not u) ≡ (b && not ((b && not l) || ((b && l) && u)))
+        go false l u = refl
+        go true false u = refl
+        go true true u = refl
 
-      after-14 : (wants b : Bool) → ltb (least unreadyRows) 16 ≡ b
-          → Steps rows s (unless (Option·map (atRow not-ready) (cond b (some (least unreadyRows)) none)) no-tick (rules.stepped (close st d) set wants))
-          (cond b (record { verdict = NotReady (least unreadyRows); state = s }) (steppedIn rows t set wants (closingIn rows s d)))
-      after-14 wants true e = (refl, refl)
-      after-14 wants false e = steps (ltb-false (least unreadyRows) 16 e) wants
+    acc-known : (j : ℕ) → rows .table .n ≤ j → bit acc j ≡ false
+    acc-known j h = bit-acc j ∙ rw (le-ltb j (rows .table .n) h, and-no (bit set j))
 
-    after-13 : (wants b : Bool) → ((j : ℕ) → rows .table .n ≤ j → bit set j ≡ false)
-        → Steps rows s
-        (unless (orElse (cond b (some (refusal none-ran)) none) (Option·map (atRow not-ready) (find (unready set) 0 (c .slots)))) no-tick (rules.stepped (close st d) set wants))
-        (cond b (record { verdict = NoneRan; state = s }) (readied rows s t set wants (closingIn rows s d)))
-    unfolding readied
-    after-13 wants true set-known = (refl, refl)
-    after-13 wants false set-known = rw (unready-is set-known) (after-14 set-known wants (ltb (least unreadyRows) 16) refl)
+    ready : (j : ℕ) → j < rows .table .n → bit acc j ≡ true → bit (t .«open») j ≡ false
+    ready j h e = go (bit (t .«open») j) (rw (bit-or (t .«open») (others (t .rested)) j) at (not-true (bit (unreadyIn t) j) (and-true (bit set j && ltb j (rows .table .n)) (not (bit (unreadyIn t) j)) (sym (bit-acc j) ∙ e) .1)))
+      where
+        go : (o : Bool) → (o || bit (others (t .rested)) j) ≡ false → o ≡ false
+        go true q = q
+        go false q = refl
 
-    after-12 : (wants b : Bool) → ltb (least unknownRows) 16 ≡ b
-        → Steps rows s
-        (unless (orElse (Option·map (atRow unknown-row) (cond b (some (least unknownRows)) none))
-        (orElse (cond (cond d (ltb 16 (s .last)) false) (some (refusal none-ran)) none) (Option·map (atRow not-ready) (find (unready set) 0 (c .slots)))))
-        no-tick (rules.stepped (close st d) set wants))
-        (cond b (record { verdict = Unknown (least unknownRows); state = s })
-        (cond (cond d (ltb 16 (s .last)) false) (record { verdict = NoneRan; state = s }) (readied rows s t set wants (closingIn rows s d))))
-    after-12 wants true e = (refl, refl)
-    after-12 wants false e = after-13 wants (cond d (ltb 16 (s .last)) false) (all-known (ltb-false (least unknownRows) 16 e))
+    -- the state once the set is released
+    abbrev u : State
+    u = releasedBy t acc
 
-    tick-steps : (wants : Bool) → Steps rows s (tick st set d wants) (tickIn rows s set d wants)
+    u-kept : Kept rows u
+    u-kept = release-kept rows t t-kept acc acc-lt acc-known ready (positive rows s S)
+
+    u-slots : slotsOf rows u ≡ release (opens set n) (c .slots)
+    u-slots = release-refines rows t t-kept acc acc-lt acc-known ready (positive rows s S) ∙ ap (release (bit acc)) (t-agrees .slots-is) ∙ (λ i. release (λ j. opens-is j i) (c .slots))
+
+    unspent-all : All Unspent (slotsOf rows u)
+    unspent-all = rw u-slots (each-all (λ x. Good x × Unspent x) Unspent (λ k x. cond (opens set n k) (released x) x) (λ k x. released-unspent (opens set n k) x) 0 (c .slots)
+        (all-both Good Unspent (c .slots) (close-good st d (I .good)) (close-unspent st d (I .runs))))
+
+    unspent : (i : ℕ) → i < rows .table .n → bit (u .«open») i ≡ true → entry (u .run) i < 65535
+    unspent i h e =
+        let r = all-rows Unspent (slotAt rows u) 0 (rows .table .n) unspent-all i (omega arith) (omega arith) (entry (u .run) i) (rw e) in
+        omega (arith, r, row-good rows s S i h, thin rows s S i h)
+
+    queue-is : (k : ℕ) → u .count ≡ suc k → c .firms ≡ firmAt u 0 ∷ rowsFrom (firmAt u) 1 k
+    queue-is k counted = sym (t-agrees .firms-is) ∙ first-row (firmAt u) 0 (u .count) k counted
+
+    queue : (k : ℕ) → u .count ≡ suc k → (entry (u .used) 0 < 65535) × All (Other (entry (u .ticket) 0)) (rowsFrom (firmAt u) 1 k)
+    queue k counted =
+        let e = queue-is k counted in
+        let (live, lives) = rw e at (close-live st d (I .firms)) in
+        let (paid, paids) = rw e at (close-queue (All Paid) (without-all Paid) st d (I .paid)) in
+        let q = rw e at (close-tickets st d (I .tickets)) in
+        (omega (arith, live, paid), first-others (st .next) (firmAt u 0) (rowsFrom (firmAt u) 1 k) (I .tickets .next-lt) (q .0) (q .1))
+
+    steps : (wants : Bool) → Steps rows (rules.stepped (close st d) set n wants) (steppedIn rows t acc wants (closingIn rows s d) (notesIn rows s t set d))
+    unfolding steppedIn
+    steps wants =
+        let chosen = choose-refines rows u u-kept (U-le rows s S) wants in
+        let choice = ap₂ (λ ss fs. choose ss fs wants) u-slots (t-agrees .firms-is) in
+        let (ran, kept) = run-refines rows u u-kept (thin rows s S) unspent queue c (t-agrees .clock-is) (t-agrees .firms-is) (t-agrees .next-is) wants in (
+          λ i. record { clock = t-agrees .clock-is i; runner = (chosen ∙ ap runnerOf choice) i; closing = sym (close-refines rows s S d .0) i; notes = notes-are i },
+          ap (λ x. stationOf rows (advanced rows (ranIn u x))) chosen ∙ ran ∙ ap₂ (rules.run c) u-slots choice,
+          subst (λ x. Kept rows (advanced rows (ranIn u x))) (sym chosen) kept,
+        )
+
+    tick-steps : (wants : Bool) → Steps rows (tick st set d wants) (tickIn rows s set d wants)
     unfolding tick tickIn stationOf
-    tick-steps wants = rw (unknown-is, none-ran-is d) (after-12 wants (ltb (least unknownRows) 16) refl)
+    tick-steps wants = steps wants
 
 pub tick-refines : (rows : Rows) (s : State) → Stored rows s → (set : ℕ) → set < 2 ^ 16 → (d wants : Bool)
-    → TickRefines rows s (tick (stationOf rows s) set d wants) (tickIn rows s set d wants)
+    → TickRefines rows (tick (stationOf rows s) set d wants) (tickIn rows s set d wants)
 tick-refines rows s S set small d wants =
-    with-image rows s (tick (stationOf rows s) set d wants) (tickIn rows s set d wants) (tick-image (stationOf rows s) set d wants (image-of rows s S)) (tick-steps rows s S set small d wants)
+    let (v, e, k) = tick-steps rows s S set small d wants in
+    (v, e, record { kept = k; image = rw e (image-iff (tick (stationOf rows s) set d wants .station) .1 (tick-image (stationOf rows s) set d wants (image-of rows s S))) })

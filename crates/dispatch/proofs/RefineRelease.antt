@@ -45,7 +45,7 @@ module _ (rows : Rows) (s : State) (K : Kept rows s) (set : ℕ) (small : set < 
       go true e = rw (and-no (bit (s .rested) j), age-now (s .clock) (K .times .clock-lt), ready j h e, K .jobs .run-blank j (ready j h e))
       go false e = rw (and-yes (bit (s .rested) j), or-no (bit (s .«open») j))
 
-  pub release-refines : slotsOf rows (releasedBy s set) ≡ release set (slotsOf rows s)
+  pub release-refines : slotsOf rows (releasedBy s set) ≡ release (bit set) (slotsOf rows s)
   release-refines = each-rows (λ k x. cond (bit set k) (released x) x) (slotAt rows s) (slotAt rows (releasedBy s set)) 0 (rows .table .n) (λ j h. slot-is j (omega arith))
 
   stamp-lt : (b : Bool) (x : ℕ) → x < 2 ^ 32 → cond b (s .clock) x < 2 ^ 32

@@ -1,4 +1,3 @@
-pub mod Verdicts
 pub mod Loops
 pub mod Steps
 pub mod Refines

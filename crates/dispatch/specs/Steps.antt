@@ -1,6 +1,6 @@
 -- What the steps of the tick compute on the arrays, close to the code. Assumes nothing.
 use Prim.Native.Nat.{ℕ, _+_, _-_, _%_, _^_}
-use mathlib.Core.Bool.{Bool, false, cond}
+use mathlib.Core.Bool.{Bool, cond, _&&_}
 use mathlib.Core.List.{List, [], _∷_}
 use lib.Bits.{bitAnd, bitOr}
 use lib.Dec.{ltb, eqb}
@@ -12,10 +12,10 @@ use Rattle.state.specs.Sets.{known, least, others}
 use Rattle.answer.specs.declared.Band.the-variants.{Upper, Lower}
 use Rattle.answer.specs.declared.Closing.{Closing}
 use Rattle.answer.specs.declared.Closing.the-variants.{Nothing, HardDone, HardSpent, FirmDone, FirmSpent}
+use Rattle.answer.specs.declared.Notes.{Notes}
 use Rattle.answer.specs.declared.Runner.{Runner}
 use Rattle.answer.specs.declared.Runner.the-variants.{Hard, Firm, Soft, Idle}
 use Rattle.dispatch.specs.declared.Ticked.{Ticked}
-use Rattle.dispatch.specs.declared.TickVerdict.the-variants.{Stepped, Unknown, NoneRan, NotReady}
 use Rattle.dispatch.specs.declared.sets.Best.{Best}
 use Rattle.dispatch.specs.Loops.{agedAt, foldRows, lowAt, marked, noBest, rowsThat, upto}
 
@@ -146,25 +146,33 @@ advanced rows s = retimed s (nextClock s) (s .«open») (restedNext rows s) (upt
 
 -- the tick
 
+-- the rows of a set that are there
+abbrev pub askedIn : Rows → ℕ → ℕ
+askedIn rows set = bitAnd set (known (rows .table .n))
+
+-- the rows that have a job open, or aren't rested
+abbrev pub unreadyIn : State → ℕ
+unreadyIn s = bitOr (s .«open») (others (s .rested))
+
+-- what is noted, where the closing has made t of s
+abbrev pub notesIn : Rows → State → State → ℕ → Bool → Notes
+notesIn rows s t set d = record {
+  unknown = bitAnd set (others (known (rows .table .n)));
+  «none_ran» = d && ltb 16 (s .last);
+  «not_ready» = bitAnd (askedIn rows set) (unreadyIn t);
+}
+
 -- 2 to 4, once the last job is closed
-unfoldable pub steppedIn : Rows → State → ℕ → Bool → Closing → Ticked
-steppedIn rows s set soft closing =
+unfoldable pub steppedIn : Rows → State → ℕ → Bool → Closing → Notes → Ticked
+steppedIn rows s set soft closing notes =
     let runner = chosenIn rows (releasedBy s set) soft in record {
-      verdict = Stepped (record { clock = s .clock; runner = runner; closing = closing });
+      answer = record { clock = s .clock; runner = runner; closing = closing; notes = notes };
       state = advanced rows (ranIn (releasedBy s set) runner);
     }
 
--- 14 and the steps, once the last job of s is closed, which gives t
-unfoldable pub readied : Rows → State → State → ℕ → Bool → Closing → Ticked
-readied rows s t set soft closing =
-    let unready = least (bitAnd set (bitOr (t .«open») (others (t .rested)))) in
-    cond (ltb unready 16) (record { verdict = NotReady unready; state = s }) (steppedIn rows t set soft closing)
-
--- 12, 13, 14, and the steps; a refusal leaves the state as it was
+-- 1 to 4: the rows asked for that are ready are released
 unfoldable pub tickIn : Rows → State → ℕ → Bool → Bool → Ticked
 tickIn rows s set d soft =
-    let unknown = least (bitAnd set (others (known (rows .table .n)))) in
     let closing = closingIn rows s d in
-    cond (ltb unknown 16) (record { verdict = Unknown unknown; state = s })
-    (cond (cond d (ltb 16 (s .last)) false) (record { verdict = NoneRan; state = s })
-    (readied rows s (closedBy s closing) set soft closing))
+    let t = closedBy s closing in
+    steppedIn rows t (bitAnd (askedIn rows set) (others (unreadyIn t))) soft closing (notesIn rows s t set d)

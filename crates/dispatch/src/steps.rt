@@ -1,12 +1,12 @@
 // The steps of a tick: 1 close, 2 release, 3 choose, 4 run and advance.
 ghost use mathlib.Core.Path.{_≡_};
 ghost use Rattle.dispatch.specs.Steps.{advanced, bumped, chosenIn, closedBy, closingIn, ranFirst, ranIn, ranNone, ranRow, releasedBy, shifted, shutRow, popped, promotedRows, steppedIn};
-use crate::TickVerdict;
 use crate::Ticked;
 use crate::sets;
 use answer::Answer;
 use answer::Band;
 use answer::Closing;
+use answer::Notes;
 use answer::Runner;
 use state::Rows;
 use state::State;
@@ -98,8 +98,8 @@ fn shift32(a: [u32; 8]) -> [u32; 8]
 }
 
 // Release, choose, run and advance, once the last job is closed.
-pub fn stepped(rows: Rows, s: State, set: u16, soft: bool, closing: Closing) -> Ticked
-    ensures { λ r. ⌜ r ≡ steppedIn rows s set soft closing ⌝ }
+pub fn stepped(rows: Rows, s: State, set: u16, soft: bool, closing: Closing, notes: Notes) -> Ticked
+    ensures { λ r. ⌜ r ≡ steppedIn rows s set soft closing notes ⌝ }
 {
     let released = release(s, set);
     let runner = choose(rows, released, soft);
@@ -109,11 +109,9 @@ pub fn stepped(rows: Rows, s: State, set: u16, soft: bool, closing: Closing) -> 
         clock: s.clock,
         runner,
         closing,
+        notes,
     };
-    Ticked {
-        verdict: TickVerdict::Stepped(answer),
-        state,
-    }
+    Ticked { answer, state }
 }
 
 fn release(s: State, set: u16) -> State

@@ -33,6 +33,7 @@ pub mod UploadMost
 pub mod Rows
 pub mod Demand3
 pub mod Time
+pub mod NotesInTime
 pub mod LastRan
 pub mod Image
 pub mod ImageTests

@@ -12,13 +12,14 @@ use Rattle.rules.specs.Station.{OnFresh, Slot, Station, freshStation}
 use Rattle.rules.specs.Offer.{futureClaim, leaves}
 use Rattle.rules.specs.Calls.{AllShort, Call, after}
 use Rattle.rules.specs.Image.{isImage}
-use Rattle.rules.specs.Promise.{Demand3, DoneIsTold, NeverOpen, Noted, TrueTime}
+use Rattle.rules.specs.Promise.{Demand3, DoneIsTold, NeverOpen, Noted, NotedInTime, TrueTime}
 use Rattle.rules.proofs.Claims.{endless}
 use Rattle.rules.proofs.Demand3.{demand3, never-open}
 use Rattle.rules.proofs.Fresh.{fresh-rows, on-fresh}
 use Rattle.rules.proofs.ImageIs.{fresh-image, image-after}
 use Rattle.rules.proofs.Kept.{planned-kept}
 use Rattle.rules.proofs.Notes.{notes-are}
+use Rattle.rules.proofs.NotesInTime.{noted-in-time}
 use Rattle.rules.proofs.Tables.{tables}
 use Rattle.rules.proofs.Tick.{told}
 use Rattle.rules.proofs.Time.{fresh-untouched, true-time}
@@ -46,6 +47,12 @@ in-true-time rs = on-fresh TrueTime rs (λ ps x. true-time (freshStation ps) (pl
 -- the second half of note 14 is never met
 pub never-open-rested : (rs : List Row) → OnFresh NeverOpen (plan rs)
 never-open-rested rs = on-fresh NeverOpen rs (λ ps x. never-open (freshStation ps) (planned-kept rs ps x))
+
+-- what a tick notes, by the table, the calls and the replies alone
+pub notes-in-time : (rs : List Row) → OnFresh (NotedInTime rs) (plan rs)
+notes-in-time rs = on-fresh (NotedInTime rs) rs (λ ps x.
+    let K = planned-kept rs ps x in
+    noted-in-time rs (freshStation ps) (fresh-rows ps ∙ x .rows-are) (true-time (freshStation ps) K (fresh-untouched ps)) (never-open (freshStation ps) K))
 
 -- the room test's sum over k = 0, 1, 2, ..: any further terms are 0
 pub sum-goes-on : (s : Slot) → 1 ≤ s .row .T → (d more : ℕ) → sum (d + more) (λ k. min (s .row .C) (leaves s d k)) ≡ futureClaim s d

@@ -26,7 +26,7 @@ rows-each : (h : ℕ → Slot → Slot) → ((k : ℕ) (s : Slot) → h k s .row
 rows-each h keep i [] = refl
 rows-each h keep i (s ∷ ss) = rw (keep i s, rows-each h keep (suc i) ss)
 
-rows-close : (st : Station) (d : Bool) → rowsOf (close st d .station .slots) ≡ rowsOf (st .slots)
+pub rows-close : (st : Station) (d : Bool) → rowsOf (close st d .station .slots) ≡ rowsOf (st .slots)
 rows-close st d = on-close (λ c. rowsOf (c .station .slots) ≡ rowsOf (st .slots)) st d (λ s. refl)
     (λ i how l e. rows-each (λ k s. cond (eqb k i) (shut s) s) (λ k s. shut-keeps (eqb k i) s .0) 0 (st .slots)) (λ t how l e. refl)
 

@@ -77,14 +77,19 @@ record At (now accs : ℕ) (o : ℕ → Option ℕ) (st : Station) : Type 0 wher
 one-more : (c n : ℕ) → c ≡ n % 2 ^ 32 → suc c % 2 ^ 32 ≡ suc n % 2 ^ 32
 one-more c n e = omega arith
 
--- where a tick chooses
+-- where a tick judges 14
+closed-stand : (now : ℕ) (o : ℕ → Option ℕ) (st : Station) (d : Bool) → AllAt (λ k s. Stands now (o k) s) 0 (st .slots)
+    → AllAt (λ k s. Stands now (o k) s) 0 (close st d .station .slots)
+closed-stand now o st d x =
+    close-slots (AllAt (λ k s. Stands now (o k) s) 0)
+    (λ i ss. each-at (λ k s. Stands now (o k) s) (λ k s. Stands now (o k) s) (λ k s. cond (eqb k i) (shut s) s) (λ k s. shut-stands now (o k) (eqb k i) s) 0 ss) st d x
+
+-- where it chooses
 chosen-stand : (now : ℕ) (o : ℕ → Option ℕ) (st : Station) (set : ℕ) (d : Bool) → AllAt (λ k s. Stands now (o k) s) 0 (st .slots)
     → AllAt (λ k s. Stands now (cond (opensOf st set d k) (some now) (o k)) s) 0 (release (opensOf st set d) (close st d .station .slots))
 chosen-stand now o st set d x =
     each-at (λ k s. Stands now (o k) s) (λ k s. Stands now (cond (opensOf st set d k) (some now) (o k)) s) (λ k s. cond (opensOf st set d k) (released s) s)
-    (λ k s. release-stands now (o k) (opensOf st set d k) s) 0 (close st d .station .slots)
-    (close-slots (AllAt (λ k s. Stands now (o k) s) 0)
-    (λ i ss. each-at (λ k s. Stands now (o k) s) (λ k s. Stands now (o k) s) (λ k s. cond (eqb k i) (shut s) s) (λ k s. shut-stands now (o k) (eqb k i) s) 0 ss) st d x)
+    (λ k s. release-stands now (o k) (opensOf st set d k) s) 0 (close st d .station .slots) (closed-stand now o st d x)
 
 at-tick : (now accs : ℕ) (o : ℕ → Option ℕ) (st : Station) (set : ℕ) (d wants : Bool) → At now accs o st
     → OnTick (λ st′ x. At (suc now) accs (λ k. cond (opens set (x .notes) k) (some now) (o k)) st′) (tick st set d wants)
@@ -143,6 +148,10 @@ true-time start K U = record {
   ticket-is = λ before B d. on-offer (λ st′ t. t ≡ acceptances (replies start before) % 2 ^ 32) (after start before) B d (λ c. A before .next-is);
   rows-are = λ before k s e. elem (ticks (replies start before)) (λ k. lastRelease k 0 none before (replies start before)) (after start before .slots)
       (kept-after before start K .inv .good) (A before .rows-stand) k s e;
+  judged-are = λ before d k s e.
+      elem (ticks (replies start before)) (λ k. lastRelease k 0 none before (replies start before)) (close (after start before) d .station .slots)
+      (close-good (after start before) d (kept-after before start K .inv .good))
+      (closed-stand (ticks (replies start before)) (λ k. lastRelease k 0 none before (replies start before)) (after start before) d (A before .rows-stand)) k s e;
   chosen-are = λ before set d k s e.
       let st = after start before in
       let now = ticks (replies start before) in

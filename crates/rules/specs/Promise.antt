@@ -130,10 +130,13 @@ pub record TrueTime (start : Station) : Type 0 where
   -- a ticket is the number of acceptances before it, modulo 2^32
   pub ticket-is : (before : List Call) (B d : ℕ)
       → OnOffered (λ st t. t ≡ acceptances (replies start before) % 2 ^ 32) (offer (after start before) B d)
-  -- every row stands in true time between two ticks ..
+  -- every row stands in true time between two ticks, ..
   pub rows-are : (before : List Call) (k : ℕ) (s : Slot) → getElem? (after start before .slots) k ≡ some s
       → TrueSlot (ticks (replies start before)) (lastRelease k 0 none before (replies start before)) s
-  -- .. and where a tick chooses: after its closing and its releases
+  -- .. where a tick judges 14: after its closing, ..
+  pub judged-are : (before : List Call) (d : Bool) (k : ℕ) (s : Slot) → getElem? (close (after start before) d .station .slots) k ≡ some s
+      → TrueSlot (ticks (replies start before)) (lastRelease k 0 none before (replies start before)) s
+  -- .. and where it chooses: after its closing and its releases
   pub chosen-are : (before : List Call) (set : ℕ) (d : Bool) (k : ℕ) (s : Slot)
       → let n = notesOf (after start before) set d in
       getElem? (release (opens set n) (close (after start before) d .station .slots)) k ≡ some s
@@ -144,3 +147,14 @@ pub record TrueTime (start : Station) : Type 0 where
 abbrev pub NeverOpen : Station → Type 0
 NeverOpen start = (before : List Call) (d : Bool) (k : ℕ) (s : Slot) → getElem? (close (after start before) d .station .slots) k ≡ some s
     → rested s ≡ true → s .job ≡ closed
+
+-- NOTES IN TRUE TIME, of a station that stands at the start, after any calls; rs is the table
+pub record NotedInTime (rs : List Row) (start : Station) : Type 0 where
+  -- 12 lists the set bits of rows that the table doesn't have ..
+  pub unknown-are : (before : List Call) (set flags k : ℕ)
+      → OnTicked (λ st x. bit (x .notes .unknown) k ≡ (bit set k && leb (length rs) k)) (tickCall (after start before) set flags)
+  -- .. and 14 those of rows whose last release is fewer than T ticks ago
+  pub not-ready-are : (before : List Call) (set flags k : ℕ) (r : Row) → getElem? rs k ≡ some r
+      → OnTicked
+      (λ st x. bit (x .notes .not-ready) k ≡ (bit set k && not (restedBy (ticks (replies start before)) (lastRelease k 0 none before (replies start before)) r)))
+      (tickCall (after start before) set flags)

@@ -1,7 +1,8 @@
-// The lines that are printed: for a tick, for an offer, for a refusal.
+// The lines that are printed: for a tick and its notes, for an offer, for a refusal.
 use answer::Answer;
 use answer::Band;
 use answer::Closing;
+use answer::Notes;
 use answer::Runner;
 use wire::Place;
 ghost use Prim.Native.Nat.{_<_};
@@ -40,7 +41,7 @@ pub fn accepted(ticket: u32) {
     print_line();
 }
 
-// A tick: the clock, the runner and the closing.
+// A tick: the clock, the runner and the closing; then its notes.
 pub fn answered(answer: Answer)
     requires { ⌜ AnswerBelow answer ⌝ }
 {
@@ -52,6 +53,8 @@ pub fn answered(answer: Answer)
     let closing = answer.closing;
     print_closing(closing);
     print_line();
+    let notes = answer.notes;
+    print_notes(notes);
 }
 
 fn print_runner(runner: Runner)
@@ -97,6 +100,31 @@ fn print_closing(closing: Closing)
             print_spent();
         }
     }
+}
+
+// A line for each note, in the order of their numbers.
+fn print_notes(notes: Notes) {
+    print_bits(12, notes.unknown);
+    if notes.none_ran {
+        print_note(13);
+        print_line();
+    }
+    print_bits(14, notes.not_ready);
+}
+
+// A note about release bits, where there are any: four digits of hex.
+fn print_bits(number: u64, bits: u16) {
+    if bits != 0 {
+        print_note(number);
+        print_space();
+        io::print_hex(1, bits as u64, 4);
+        print_line();
+    }
+}
+
+fn print_note(number: u64) {
+    print(b"note ");
+    print_number(number);
 }
 
 fn print_job(row: usize)

@@ -1,7 +1,6 @@
-// Reads table.bin and events.bin, each empty where it can't be opened, and prints a line an event: the dispatcher's answer, or why it is refused.
+// Reads table.bin and events.bin, each empty where it can't be opened, and prints a line an event: the dispatcher's answer, or why it is refused; after a tick's line one for each note.
 mod lines;
 
-use dispatch::TickVerdict;
 use event::EventRead;
 use offer::Offered;
 use state::Rows;
@@ -72,11 +71,7 @@ fn run_events<'a>(table: &'a [u8], events: &'a [u8], rows: Rows) {
                 soft,
                 next,
             } => {
-                let field = Place::Events {
-                    from: at,
-                    size: next - at,
-                };
-                state = tick(table, events, field, rows, state, set, done, soft);
+                state = tick(rows, state, set, done, soft);
                 at = next;
             }
             EventRead::Offer {
@@ -102,25 +97,12 @@ fn run_events<'a>(table: &'a [u8], events: &'a [u8], rows: Rows) {
     }
 }
 
-// A tick, whose field is shown where it is refused; the state after it.
-fn tick<'a>(
-    table: &'a [u8],
-    events: &'a [u8],
-    field: Place,
-    rows: Rows,
-    state: State,
-    set: u16,
-    done: bool,
-    soft: bool,
-) -> State
+// A tick; the state after it.
+fn tick(rows: Rows, state: State, set: u16, done: bool, soft: bool) -> State
     ensures { λ r. ⌜ r ≡ tickIn rows state set done soft .state ⌝ }
 {
     let ticked = dispatch::tick(rows, state, set, done, soft);
-    let verdict = ticked.verdict;
-    let TickVerdict::Stepped(answer) = verdict else {
-        lines::refused(table, events, dispatch::tick_number(verdict), field);
-        return ticked.state;
-    };
+    let answer = ticked.answer;
     lines::answered(answer);
     ticked.state
 }

@@ -25,9 +25,6 @@ event-at-requires c κs = search needs
 enum-known-set : tie.Need-enum-known-set Inv-loop μ-loop
 enum-known-set c = search needs
 
-sub-t19 : tie.Need-sub-t19 Inv-loop μ-loop
-sub-t19 c = let read = c .before .before .before in omega (arith, ahead _ _ (read .before .loop .inv) (read .event-at .ensures) (c .before .set .given .1))
-
 tick-requires : tie.Need-tick-requires Inv-loop μ-loop
 tick-requires c κs = search needs
 
@@ -40,8 +37,8 @@ loop-again c = let read = c .before .before .before .before in omega (arith, ahe
 enum-known-budget : tie.Need-enum-known-budget Inv-loop μ-loop
 enum-known-budget c = search needs
 
-sub-t20 : tie.Need-sub-t20 Inv-loop μ-loop
-sub-t20 c = let read = c .before .before .before in omega (arith, ahead _ _ (read .before .loop .inv) (read .event-at .ensures) (c .before .budget .given .1))
+sub-t18 : tie.Need-sub-t18 Inv-loop μ-loop
+sub-t18 c = let read = c .before .before .before in omega (arith, ahead _ _ (read .before .loop .inv) (read .event-at .ensures) (c .before .budget .given .1))
 
 offer-requires : tie.Need-offer-requires Inv-loop μ-loop
 offer-requires c κs = search needs
@@ -77,12 +74,11 @@ run-events-spec =
     loop-holds
     event-at-requires
     enum-known-set
-    sub-t19
     tick-requires
     loop-less
     loop-again
     enum-known-budget
-    sub-t20
+    sub-t18
     offer-requires
     loop-less-2
     loop-again-2
