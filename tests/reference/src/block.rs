@@ -211,7 +211,7 @@ mod tests {
         let rows =
             [Row { c: 2, d: 6, t: 8, rank: 1, m: 0 }, Row { c: 5, d: 12, t: 12, rank: 0, m: 1 }];
         let mut station = Station::new(&read_table(&file_of_rows(&rows)).unwrap());
-        station.tick(3, false, false).unwrap();
+        station.tick(3, false, false);
         station.offer(1, 9).unwrap();
         station.offer(1, 9).unwrap();
         station

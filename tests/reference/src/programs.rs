@@ -1,7 +1,7 @@
 //! The exact text that `plan` and `run` print.
 
 use crate::event::{read_event, Event, Found};
-use crate::station::{Answer, Band, Closing, Job, Refusal, Runner, Station};
+use crate::station::{Answer, Band, Closing, Job, Notes, Runner, Station};
 use crate::table::{read_table, FileRefusal};
 
 /// Most bytes of a table.
@@ -55,27 +55,27 @@ pub fn run(table_file: &[u8], events_file: &[u8]) -> String {
             Found::End => return text,
             // 1, 2, 3 and 20: the program stops.
             Found::Refused(refusal) => return text + &file_refusal_line(refusal, events_file),
-            // 12 to 18: the program goes on.
+            // 15 to 18: the program goes on.
             Found::Event(event, size) => {
                 let field = &events_file[place..place + size];
-                text += &event_line(&mut station, event, field);
+                text += &event_lines(&mut station, event, field);
                 place += size;
             }
         }
     }
 }
 
-/// Gives an event to the station; the line of its answer or its refusal.
-fn event_line(station: &mut Station, event: Event, field: &[u8]) -> String {
-    let refused = |refusal: Refusal| refusal_line(refusal.number, field);
+/// Gives an event to the station; the line of its answer or its refusal, and
+/// after a tick's line those of its notes.
+fn event_lines(station: &mut Station, event: Event, field: &[u8]) -> String {
     match event {
-        Event::Tick { releases, done, soft } => match station.tick(releases, done, soft) {
-            Ok(answer) => answer_line(answer),
-            Err(refusal) => refused(refusal),
-        },
+        Event::Tick { releases, done, soft } => {
+            let answer = station.tick(releases, done, soft);
+            answer_line(answer) + &note_lines(answer.notes)
+        }
         Event::Offer { budget, deadline } => match station.offer(budget, deadline) {
             Ok(ticket) => format!("offer F{ticket}\n"),
-            Err(refusal) => refused(refusal),
+            Err(number) => refusal_line(number, field),
         },
     }
 }
@@ -94,6 +94,21 @@ fn answer_line(answer: Answer) -> String {
         Closing::Spent(job) => format!("{} spent", job_name(job)),
     };
     format!("{} {} {}\n", answer.clock, runner, closing)
+}
+
+/// `note`, the number, and for 12 and 14 the bits as four hex digits; by number.
+fn note_lines(notes: Notes) -> String {
+    let mut lines = String::new();
+    if notes.unknown > 0 {
+        lines += &format!("note 12 {:04x}\n", notes.unknown);
+    }
+    if notes.none_ran {
+        lines += "note 13\n";
+    }
+    if notes.not_ready > 0 {
+        lines += &format!("note 14 {:04x}\n", notes.not_ready);
+    }
+    lines
 }
 
 fn job_name(job: Job) -> String {
@@ -148,10 +163,11 @@ mod tests {
                     1 S -\n\
                     offer F0\n\
                     2 F0 -\n\
-                    refused 14 21 00 03 00 01 00\n\
                     3 F0 -\n\
+                    note 14 0001\n\
                     4 U1 F0 spent\n\
-                    5 U2 H1 done\n";
+                    5 U2 H1 spent\n\
+                    6 I H2 done\n";
         assert_eq!(run(&table_a(), &events), want);
     }
 
@@ -228,17 +244,26 @@ mod tests {
             let want = format!("{}0 S -\n", refusal_line(number, &field));
             assert_eq!(run(table, &events), want);
         };
-        goes_on(&table_a(), tick_field(4, 0), 12);
-        goes_on(&table_a(), tick_field(0, 1), 13);
         goes_on(&table_a(), offer_field(0, 1), 15);
         goes_on(&table_a(), offer_field(2, 1), 16);
         goes_on(&table_a(), offer_field(5, 5), 18);
-        let events = [tick_field(1, 2), tick_field(1, 2), tick_field(0, 2)].concat();
-        let want = "0 S -\nrefused 14 21 00 03 00 01 02\n1 S -\n";
-        assert_eq!(run(&table_a(), &events), want);
         let events = offer_field(1, 9).repeat(9);
         let text = run(&empty(), &events);
         assert!(text.ends_with("offer F7\nrefused 17 22 00 04 00 01 00 09\n"));
+    }
+
+    #[test]
+    fn notes_after_the_line_of_their_tick() {
+        let prints = |events: &[Vec<u8>], want: &str| {
+            assert_eq!(run(&table_a(), &events.concat()), want);
+        };
+        prints(&[tick_field(0x8004, 2), tick_field(0, 2)], "0 S -\nnote 12 8004\n1 S -\n");
+        prints(&[tick_field(0, 3), tick_field(0, 2)], "0 S -\nnote 13\n1 S -\n");
+        prints(&[tick_field(1, 2), tick_field(1, 2)], "0 S -\n1 S -\nnote 14 0001\n");
+        prints(
+            &[tick_field(1, 2), tick_field(0xffff, 1), tick_field(0, 2)],
+            "0 S -\n1 L1 -\nnote 12 fffc\nnote 13\nnote 14 0001\n2 S -\n",
+        );
     }
 
     #[test]

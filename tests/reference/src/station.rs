@@ -1,6 +1,6 @@
 //! The station: the tick and the upload offer, in true time.
 
-use crate::table::{Row, Table};
+use crate::table::{Row, Table, MOST_ROWS};
 
 /// Most firm jobs in the queue.
 pub const MOST_FIRM: usize = 8;
@@ -89,26 +89,37 @@ pub enum Closing {
     Spent(Job),
 }
 
-/// The answer to an accepted tick.
+/// What was wrong with a tick call: all of it is listed, and taken as clear.
+#[derive(Clone, Copy, Debug, Default, PartialEq, Eq)]
+pub struct Notes {
+    /// 12: the release bits of rows above n.
+    pub unknown: u16,
+    /// 13: the done flag, and the last accepted tick ran no job or there was
+    /// none.
+    pub none_ran: bool,
+    /// 14: the release bits of rows that aren't rested, or have a job still open
+    /// after the closing.
+    pub not_ready: u16,
+}
+
+/// The answer to a tick.
 #[derive(Clone, Copy, Debug, PartialEq, Eq)]
 pub struct Answer {
     /// The tick as the clock shows it.
     pub clock: u128,
     pub runner: Runner,
     pub closing: Closing,
+    pub notes: Notes,
 }
 
-/// A refused tick or offer: the number, and for 12 and 14 the row.
-#[derive(Clone, Copy, Debug, PartialEq, Eq)]
-pub struct Refusal {
-    pub number: u8,
-    pub row: Option<usize>,
+/// The release set of this row alone, counted from 1 (bit 0 is row 1).
+pub fn row_bit(row: usize) -> u16 {
+    2_u16.pow(row as u32 - 1)
 }
 
-/// Whether the release set holds this row, counted from 1 (bit 0 is row 1).
+/// Whether the release set holds this row, counted from 1.
 pub fn releases_row(releases: u16, row: usize) -> bool {
-    let weight = 2_u128.pow(row as u32 - 1);
-    u128::from(releases) / weight % 2 == 1
+    releases / row_bit(row) % 2 == 1
 }
 
 impl HardRow {
@@ -194,56 +205,43 @@ impl Station {
         self.time % ROLL_OVER
     }
 
-    /// One tick call: 12, 13, 14, or the answer. A refused call changes
-    /// nothing.
-    pub fn tick(&mut self, releases: u16, done: bool, soft: bool) -> Result<Answer, Refusal> {
-        self.refuse_unknown_rows(releases)?;
-        self.refuse_needless_done(done)?;
-        // The steps work on a copy, which is kept only if the tick is accepted.
-        let mut next = self.clone();
-        let closing = next.close(done);
-        next.refuse_unready_rows(releases)?;
-        next.release(releases);
-        let clock = next.clock();
-        let runner = next.choose(soft);
-        next.run(runner);
-        *self = next;
-        Ok(Answer { clock, runner, closing })
+    /// One tick call. What is noted counts as clear, and the tick is stepped.
+    pub fn tick(&mut self, releases: u16, done: bool, soft: bool) -> Answer {
+        let unknown = self.unknown_rows(releases);
+        let none_ran = done && !self.ran_job();
+        let closing = self.close(done && !none_ran);
+        let not_ready = self.unready_rows(releases);
+        let notes = Notes { unknown, none_ran, not_ready };
+        self.release(releases, notes);
+        let clock = self.clock();
+        let runner = self.choose(soft);
+        self.run(runner);
+        Answer { clock, runner, closing, notes }
     }
 
-    /// 12: a release bit of a row above n.
-    fn refuse_unknown_rows(&self, releases: u16) -> Result<(), Refusal> {
-        for row in 1..=16 {
-            if releases_row(releases, row) && row > self.rows.len() {
-                return Err(Refusal { number: 12, row: Some(row) });
-            }
-        }
-        Ok(())
-    }
-
-    /// 13: a done flag, and the last accepted tick ran no job or there was none.
-    fn refuse_needless_done(&self, done: bool) -> Result<(), Refusal> {
-        let ran_job = match self.last {
+    /// Whether the last accepted tick ran a hard or firm job.
+    pub fn ran_job(&self) -> bool {
+        match self.last {
             Last::None | Last::NoJob => false,
             Last::Hard(_) | Last::Firm => true,
-        };
-        if done && !ran_job {
-            return Err(Refusal { number: 13, row: None });
         }
-        Ok(())
     }
 
-    /// 14, asked after the closing: a released row isn't rested or has an open
-    /// job.
-    fn refuse_unready_rows(&self, releases: u16) -> Result<(), Refusal> {
-        for row in 1..=self.rows.len() {
+    /// 12: the release bits of rows above n.
+    fn unknown_rows(&self, releases: u16) -> u16 {
+        let above_n = self.rows.len() + 1..=MOST_ROWS;
+        above_n.filter(|&row| releases_row(releases, row)).map(row_bit).sum()
+    }
+
+    /// 14, asked after the closing: the release bits of rows that aren't rested or
+    /// have an open job.
+    fn unready_rows(&self, releases: u16) -> u16 {
+        let unready = |row: usize| {
             let hard = &self.rows[row - 1];
-            let unready = !hard.rested(self.time) || hard.open.is_some();
-            if releases_row(releases, row) && unready {
-                return Err(Refusal { number: 14, row: Some(row) });
-            }
-        }
-        Ok(())
+            !hard.rested(self.time) || hard.open.is_some()
+        };
+        let numbers = 1..=self.rows.len();
+        numbers.filter(|&row| releases_row(releases, row) && unready(row)).map(row_bit).sum()
     }
 
     /// Step 1: closes the job that ran in the last accepted tick, as done if
@@ -277,10 +275,11 @@ impl Station {
         }
     }
 
-    /// Step 2: each set bit opens a job of that row, released now, nothing run.
-    fn release(&mut self, releases: u16) {
+    /// Step 2: each set bit that isn't noted opens a job of that row, released
+    /// now, nothing run.
+    fn release(&mut self, releases: u16, notes: Notes) {
         for row in 1..=self.rows.len() {
-            if releases_row(releases, row) {
+            if releases_row(releases, row) && !releases_row(notes.not_ready, row) {
                 let hard = &mut self.rows[row - 1];
                 hard.last_release = Some(self.time);
                 hard.open = Some(HardJob { release: self.time, run: 0 });
@@ -327,19 +326,18 @@ impl Station {
 
     /// An upload offer: 15, 16, 17, 18, or the ticket as shown. A refused offer
     /// changes nothing.
-    pub fn offer(&mut self, budget: u16, deadline: u16) -> Result<u128, Refusal> {
-        let refuse = |number: u8| Err(Refusal { number, row: None });
+    pub fn offer(&mut self, budget: u16, deadline: u16) -> Result<u128, u8> {
         if budget == 0 {
-            return refuse(15);
+            return Err(15);
         }
         if deadline < budget {
-            return refuse(16);
+            return Err(16);
         }
         if self.firm.len() == MOST_FIRM {
-            return refuse(17);
+            return Err(17);
         }
         if self.room(deadline) < i128::from(budget) + self.unrun_budgets() {
-            return refuse(18);
+            return Err(18);
         }
         let number = self.acceptances;
         self.firm.push(FirmJob { number, budget: u128::from(budget), run: 0 });
@@ -396,19 +394,22 @@ mod tests {
     /// Table A after the first two ticks of the listing.
     fn at_clock_2() -> Station {
         let mut a = table_a();
-        assert_eq!(a.tick(3, false, false).unwrap().runner, Runner::Hard(1, Band::Lower));
-        assert_eq!(a.tick(0, false, true).unwrap().runner, Runner::Soft);
+        assert_eq!(a.tick(3, false, false).runner, Runner::Hard(1, Band::Lower));
+        assert_eq!(a.tick(0, false, true).runner, Runner::Soft);
         assert_eq!(a.clock(), 2);
         a
     }
 
-    fn refused<T>(number: u8, row: Option<usize>) -> Result<T, Refusal> {
-        Err(Refusal { number, row })
-    }
-
     /// A tick without release or flag.
     fn plain(station: &mut Station) -> Answer {
-        station.tick(0, false, false).unwrap()
+        station.tick(0, false, false)
+    }
+
+    const NOTHING: Notes = Notes { unknown: 0, none_ran: false, not_ready: 0 };
+
+    /// An answer in which nothing is noted.
+    fn answer(clock: u128, runner: Runner, closing: Closing) -> Answer {
+        Answer { clock, runner, closing, notes: NOTHING }
     }
 
     // The station figures on offers.
@@ -416,16 +417,16 @@ mod tests {
     #[test]
     fn figure_offers_at_clock_2() {
         assert_eq!(at_clock_2().offer(2, 4), Ok(0));
-        assert_eq!(at_clock_2().offer(3, 4), refused(18, None));
+        assert_eq!(at_clock_2().offer(3, 4), Err(18));
         assert_eq!(at_clock_2().offer(2, 3), Ok(0));
-        assert_eq!(at_clock_2().offer(3, 5), refused(18, None));
+        assert_eq!(at_clock_2().offer(3, 5), Err(18));
     }
 
     #[test]
     fn figure_offers_on_the_empty_table() {
         let mut empty = station(&[]);
         assert_eq!(empty.offer(5, 5), Ok(0));
-        assert_eq!(empty.offer(1, 5), refused(18, None));
+        assert_eq!(empty.offer(1, 5), Err(18));
         assert_eq!(empty.offer(1, 6), Ok(1));
     }
 
@@ -433,74 +434,98 @@ mod tests {
     fn figure_the_listing_step_by_step() {
         let mut a = at_clock_2();
         assert_eq!(a.offer(2, 4), Ok(0));
-        let runner = Runner::Firm(0);
-        assert_eq!(plain(&mut a), Answer { clock: 2, runner, closing: Closing::None });
-        let before = a.clone();
-        assert_eq!(a.tick(1, false, false), refused(14, Some(1)));
-        assert_eq!(a, before);
-        assert_eq!(plain(&mut a), Answer { clock: 3, runner, closing: Closing::None });
-        let runner = Runner::Hard(1, Band::Upper);
-        let closing = Closing::Spent(Job::Firm(0));
-        assert_eq!(plain(&mut a), Answer { clock: 4, runner, closing });
-        let runner = Runner::Hard(2, Band::Upper);
+        let firm = Runner::Firm(0);
+        assert_eq!(plain(&mut a), answer(2, firm, Closing::None));
+        let notes = Notes { not_ready: 1, ..NOTHING };
+        let noted = Answer { notes, ..answer(3, firm, Closing::None) };
+        assert_eq!(a.tick(1, false, false), noted);
+        let upper = |row| Runner::Hard(row, Band::Upper);
+        assert_eq!(plain(&mut a), answer(4, upper(1), Closing::Spent(Job::Firm(0))));
+        assert_eq!(plain(&mut a), answer(5, upper(2), Closing::Spent(Job::Hard(1))));
+        let last = a.tick(0, true, false);
+        assert_eq!(last, answer(6, Runner::Idle, Closing::Done(Job::Hard(2))));
+    }
+
+    // One test for each note of a tick, and for each refusal of an offer.
+
+    #[test]
+    fn note_12_lists_every_bit_above_n() {
+        let mut a = table_a();
+        assert_eq!(a.tick(0x8008, false, false).notes, Notes { unknown: 0x8008, ..NOTHING });
+        assert_eq!(a.tick(0xfffc, false, false).notes, Notes { unknown: 0xfffc, ..NOTHING });
+        assert_eq!(a.time, 2);
+        let both = a.tick(0x8003, false, false);
+        assert_eq!(both.notes, Notes { unknown: 0x8000, ..NOTHING });
+        assert!(a.rows.iter().all(|hard| hard.last_release == Some(2)));
+    }
+
+    #[test]
+    fn note_13_where_no_job_ran() {
+        let noted = Notes { none_ran: true, ..NOTHING };
+        let mut a = table_a();
+        assert_eq!(a.tick(0, true, false).notes, noted);
+        assert_eq!(a.tick(0, true, true).notes, noted);
+        let after_soft = a.tick(1, true, false);
+        assert_eq!((after_soft.notes, after_soft.closing), (noted, Closing::None));
+        let after_a_job = a.tick(0, true, false);
         let closing = Closing::Done(Job::Hard(1));
-        assert_eq!(a.tick(0, true, false), Ok(Answer { clock: 5, runner, closing }));
-    }
-
-    // One test for each refusal of a tick or an offer.
-
-    #[test]
-    fn refusal_12_names_the_lowest_bit_above_n() {
-        let mut a = table_a();
-        assert_eq!(a.tick(0x8008, true, false), refused(12, Some(4)));
-        assert_eq!(a.tick(0x8003, false, false), refused(12, Some(16)));
-        assert_eq!(a, table_a());
+        assert_eq!((after_a_job.notes, after_a_job.closing), (NOTHING, closing));
     }
 
     #[test]
-    fn refusal_13() {
+    fn note_14_until_t_ticks_have_passed() {
         let mut a = table_a();
-        assert_eq!(a.tick(0, true, false), refused(13, None));
-        plain(&mut a);
-        assert_eq!(a.tick(0, true, false), refused(13, None));
-        a.tick(0, false, true).unwrap();
-        assert_eq!(a.tick(0, true, false), refused(13, None));
-    }
-
-    #[test]
-    fn refusal_14_until_t_ticks_have_passed() {
-        let mut a = table_a();
-        a.tick(3, false, false).unwrap();
-        a.tick(0, true, false).unwrap();
-        while a.time < 7 {
-            plain(&mut a);
+        assert_eq!(a.tick(3, false, false).notes, NOTHING);
+        for time in 1..=12 {
+            let not_ready = match time {
+                8 => 2,
+                12 => 1,
+                _ => 3,
+            };
+            assert_eq!(a.tick(3, false, false).notes, Notes { not_ready, ..NOTHING });
+            assert_eq!(a.time, time + 1);
         }
-        assert_eq!(a.tick(3, false, false), refused(14, Some(1)));
-        plain(&mut a);
-        assert_eq!(a.tick(3, false, false), refused(14, Some(2)));
-        assert!(a.tick(1, false, false).is_ok());
+        let releases = [0, 1].map(|index: usize| a.rows[index].last_release);
+        assert_eq!(releases, [Some(8), Some(12)]);
     }
 
     #[test]
-    fn refusal_14_for_an_open_job_of_a_rested_row() {
+    fn note_14_for_an_open_job_of_a_rested_row() {
         // No fresh station gets here: the job is open for a whole T.
+        let mut late = table_a();
+        late.tick(1, false, false);
+        late.time = 8;
+        assert!(late.rows[0].rested(late.time));
+        let noted = Notes { not_ready: 1, ..NOTHING };
+        assert_eq!(late.clone().tick(1, false, false).notes, noted);
+        // What this very call closes is open no more.
+        let done = late.clone().tick(1, true, false);
+        assert_eq!((done.notes, done.closing), (NOTHING, Closing::Done(Job::Hard(1))));
+        late.rows[0].open.as_mut().unwrap().run = 2;
+        let spent = late.clone().tick(1, false, false);
+        assert_eq!((spent.notes, spent.closing), (NOTHING, Closing::Spent(Job::Hard(1))));
+        // A done flag that is noted closes nothing.
+        late.last = Last::NoJob;
+        let notes = late.tick(1, true, false).notes;
+        assert_eq!(notes, Notes { none_ran: true, ..noted });
+    }
+
+    #[test]
+    fn all_notes_at_once_and_a_release() {
         let mut a = table_a();
-        a.tick(1, false, false).unwrap();
-        a.time = 8;
-        a.last = Last::NoJob;
-        assert!(a.rows[0].rested(a.time));
-        assert_eq!(a.tick(1, false, false), refused(14, Some(1)));
-        // With the closing of this very call it is accepted.
-        a.last = Last::Hard(1);
-        assert_eq!(a.tick(1, false, false), refused(14, Some(1)));
-        assert_eq!(a.tick(1, true, false).unwrap().closing, Closing::Done(Job::Hard(1)));
+        a.tick(1, false, true);
+        let answer = a.tick(0x8003, true, false);
+        assert_eq!(answer.notes, Notes { unknown: 0x8000, none_ran: true, not_ready: 1 });
+        assert_eq!((answer.clock, answer.closing), (1, Closing::None));
+        let releases = [0, 1].map(|index: usize| a.rows[index].last_release);
+        assert_eq!(releases, [Some(0), Some(1)]);
     }
 
     #[test]
     fn refusals_15_and_16() {
         let mut a = table_a();
-        assert_eq!(a.offer(0, 0), refused(15, None));
-        assert_eq!(a.offer(3, 2), refused(16, None));
+        assert_eq!(a.offer(0, 0), Err(15));
+        assert_eq!(a.offer(3, 2), Err(16));
         assert_eq!(a, table_a());
     }
 
@@ -510,12 +535,12 @@ mod tests {
         for ticket in 0..8 {
             assert_eq!(empty.offer(1, 100), Ok(ticket));
         }
-        assert_eq!(empty.offer(0, 0), refused(15, None));
-        assert_eq!(empty.offer(2, 1), refused(16, None));
-        assert_eq!(empty.offer(100, 100), refused(17, None));
+        assert_eq!(empty.offer(0, 0), Err(15));
+        assert_eq!(empty.offer(2, 1), Err(16));
+        assert_eq!(empty.offer(100, 100), Err(17));
         // Fully run, the first job still holds its place until the next tick.
         plain(&mut empty);
-        assert_eq!(empty.offer(1, 100), refused(17, None));
+        assert_eq!(empty.offer(1, 100), Err(17));
         assert_eq!(plain(&mut empty).closing, Closing::Spent(Job::Firm(0)));
         assert_eq!(empty.offer(1, 100), Ok(8));
     }
@@ -525,7 +550,7 @@ mod tests {
         // Both rows have U = 0, so one tick's window holds two claims.
         let mut busy = station(&[(1, 1, 2, 0), (1, 2, 2, 1)]);
         assert_eq!(busy.room(1), -1);
-        assert_eq!(busy.offer(1, 1), refused(18, None));
+        assert_eq!(busy.offer(1, 1), Err(18));
     }
 
     // The slips named in document 01.
@@ -534,10 +559,10 @@ mod tests {
     fn a_long_sleep_leaves_the_row_rested() {
         for slept in [ROLL_OVER - 2, ROLL_OVER - 1, ROLL_OVER, ROLL_OVER + 3, 5 * ROLL_OVER] {
             let mut a = table_a();
-            a.tick(1, false, false).unwrap();
-            a.tick(0, true, false).unwrap();
+            a.tick(1, false, false);
+            a.tick(0, true, false);
             a.sleep(slept);
-            let answer = a.tick(1, false, false).unwrap();
+            let answer = a.tick(1, false, false);
             assert_eq!(answer.clock, (slept + 2) % ROLL_OVER);
             assert_eq!(answer.runner, Runner::Hard(1, Band::Lower));
         }
@@ -558,9 +583,9 @@ mod tests {
     fn promoted_from_release_and_u_on() {
         let mut a = table_a();
         let mut runners = Vec::new();
-        runners.push(a.tick(1, false, true).unwrap().runner);
+        runners.push(a.tick(1, false, true).runner);
         for _ in 0..5 {
-            runners.push(a.tick(0, false, true).unwrap().runner);
+            runners.push(a.tick(0, false, true).runner);
         }
         let upper = Runner::Hard(1, Band::Upper);
         let soft = Runner::Soft;
@@ -578,9 +603,9 @@ mod tests {
     #[test]
     fn a_margin_promotes_earlier() {
         let mut a = table_a_with_margins();
-        let mut answers = vec![a.tick(3, false, true).unwrap()];
+        let mut answers = vec![a.tick(3, false, true)];
         for _ in 1..8 {
-            answers.push(a.tick(0, false, true).unwrap());
+            answers.push(a.tick(0, false, true));
         }
         let row = |row| Runner::Hard(row, Band::Upper);
         let runners: Vec<Runner> = answers.iter().map(|answer| answer.runner).collect();
@@ -604,16 +629,16 @@ mod tests {
     #[test]
     fn the_lower_band_goes_by_rank_and_the_upper_by_row() {
         let mut two = station(&[(1, 9, 9, 1), (1, 9, 9, 0)]);
-        assert_eq!(two.tick(3, false, false).unwrap().runner, Runner::Hard(2, Band::Lower));
+        assert_eq!(two.tick(3, false, false).runner, Runner::Hard(2, Band::Lower));
         let mut two = station(&[(1, 9, 9, 1), (1, 9, 9, 0)]);
-        two.tick(3, false, true).unwrap();
+        two.tick(3, false, true);
         while two.time < 8 {
             assert_eq!(
-                two.tick(0, false, true).unwrap().runner,
+                two.tick(0, false, true).runner,
                 if two.time == 8 { Runner::Hard(2, Band::Upper) } else { Runner::Soft }
             );
         }
-        assert_eq!(two.tick(0, false, true).unwrap().runner, Runner::Hard(1, Band::Upper));
+        assert_eq!(two.tick(0, false, true).runner, Runner::Hard(1, Band::Upper));
     }
 
     #[test]
@@ -621,27 +646,25 @@ mod tests {
         let mut empty = station(&[]);
         empty.offer(1, 1).unwrap();
         plain(&mut empty);
-        let answer = empty.tick(0, true, false).unwrap();
+        let answer = empty.tick(0, true, false);
         assert_eq!(answer.closing, Closing::Done(Job::Firm(0)));
     }
 
     #[test]
-    fn the_last_runner_is_remembered_across_refusals_and_offers() {
+    fn the_last_runner_is_remembered_across_offers() {
         let mut a = table_a();
-        a.tick(1, false, false).unwrap();
-        assert_eq!(a.tick(4, true, false), refused(12, Some(3)));
-        assert_eq!(a.tick(1, true, false), refused(14, Some(1)));
+        a.tick(1, false, false);
         assert_eq!(a.offer(1, 2), Ok(0));
-        let answer = a.tick(0, true, false).unwrap();
-        assert_eq!(answer.closing, Closing::Done(Job::Hard(1)));
+        assert_eq!(a.offer(0, 2), Err(15));
+        assert_eq!(a.tick(0, true, false).closing, Closing::Done(Job::Hard(1)));
     }
 
     #[test]
     fn a_row_of_period_one_is_released_every_tick() {
         let mut one = station(&[(1, 1, 1, 0)]);
-        assert_eq!(one.tick(1, false, true).unwrap().closing, Closing::None);
+        assert_eq!(one.tick(1, false, true).closing, Closing::None);
         for _ in 0..5 {
-            let answer = one.tick(1, false, true).unwrap();
+            let answer = one.tick(1, false, true);
             assert_eq!(answer.runner, Runner::Hard(1, Band::Upper));
             assert_eq!(answer.closing, Closing::Spent(Job::Hard(1)));
         }

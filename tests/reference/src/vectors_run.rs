@@ -3,7 +3,7 @@
 use crate::event::{offer_field, read_event, tick_field, Event, Found};
 use crate::programs::{EVENTS_LIMIT, TABLE_LIMIT};
 use crate::random::Random;
-use crate::station::{Last, Station};
+use crate::station::{row_bit, Last, Station};
 use crate::table::read_table;
 use crate::vectors::{
     empty_table, ended, join, light_rows, margin_rows, margin_table, random_accepted,
@@ -20,7 +20,7 @@ pub fn all() -> Vec<RunVector> {
     files(&mut list);
     tables_refused(&mut list);
     events_refused(&mut list);
-    ticks_refused(&mut list);
+    ticks_noted(&mut list);
     offers_refused(&mut list);
     choices(&mut list);
     closings(&mut list);
@@ -28,6 +28,7 @@ pub fn all() -> Vec<RunVector> {
     margins(&mut list);
     loads(&mut list);
     randoms(&mut list);
+    noises(&mut list);
     random_tables_with_margins(&mut list);
     lengths(&mut list);
     list
@@ -133,8 +134,8 @@ fn events_refused(list: &mut Vec<RunVector>) {
     stops("event-refusal-20-bit-2", &tick(0, 0x04));
     stops("event-refusal-20-bit-7-with-done", &tick(0, 0x81));
     stops("event-refusal-20-all-bits", &tick(0, 0xff));
-    stops("event-refusal-20-before-12", &tick(0x8000, 0x08));
-    stops("event-refusal-20-before-14", &tick(1, 0x10));
+    stops("event-refusal-20-with-a-row-above-n", &tick(0x8000, 0x08));
+    stops("event-refusal-20-with-a-row-not-rested", &tick(1, 0x10));
 
     let mut cut = |name: &str, event: &[u8]| {
         add(list, name, table_a(), &[before.clone(), event.to_vec()]);
@@ -149,45 +150,107 @@ fn events_refused(list: &mut Vec<RunVector>) {
     add(list, "event-refusal-02-first-of-all", empty_table(), &[vec![0xff, 0xff, 0xff], plain()]);
 }
 
-/// 12, 13 and 14: after these the program goes on.
-fn ticks_refused(list: &mut Vec<RunVector>) {
-    let mut on_a = |name: &str, events: &[Vec<u8>]| add(list, name, table_a(), events);
-    on_a("tick-refusal-12", &[tick(4, 0), tick(0x8001, 0), tick(3, 0), tick(0xfffc, 0), plain()]);
-    on_a("tick-refusal-12-before-13", &[tick(4, DONE), plain()]);
-    on_a("tick-refusal-12-before-14", &[tick(3, 0), tick(7, 0), plain()]);
-    on_a("tick-refusal-13-no-tick-before", &[tick(3, DONE), tick(3, 0)]);
-    on_a(
-        "tick-refusal-13-after-soft",
-        &[tick(3, SOFT), tick(0, DONE), tick(0, DONE | SOFT), plain()],
+/// 12, 13 and 14: noted, and the tick is stepped.
+fn ticks_noted(list: &mut Vec<RunVector>) {
+    rows_above_n_noted(list);
+    needless_done_noted(list);
+    unready_rows_noted(list);
+    several_noted(list);
+}
+
+fn rows_above_n_noted(list: &mut Vec<RunVector>) {
+    let above_a = join(&(3..=16).map(|row| tick(row_bit(row), 0)).collect::<Vec<_>>());
+    add(list, "tick-notes-12-every-bit-above-n", table_a(), &[above_a, plain()]);
+    add(
+        list,
+        "tick-notes-12-beside-a-release",
+        table_a(),
+        &[tick(0x8001, 0), tick(0xfffc, SOFT), tick(0x8006, 0), times(7, plain())],
     );
-    on_a("tick-refusal-13-after-idle", &[plain(), tick(1, DONE), tick(1, 0), tick(0, DONE)]);
-    on_a("tick-refusal-13-done-twice", &[tick(1, 0), tick(0, DONE), tick(0, DONE), plain()]);
-    on_a("tick-refusal-13-before-14", &[tick(1, SOFT), tick(1, DONE), tick(1, 0), plain()]);
+    // Row 1 is rested, and the upload is run, by ticks that were noted.
+    add(
+        list,
+        "tick-notes-12-time-goes-on",
+        table_a(),
+        &[offer(2, 4), tick(5, 0), times(7, tick(4, 0)), tick(5, 0), times(2, plain())],
+    );
+    let no_rows = [tick(1, 0), tick(0xffff, SOFT), offer(1, 1), tick(0x0100, 0), plain()];
+    add(list, "tick-notes-12-empty-table", empty_table(), &no_rows);
+    let fifteen = [tick(0xffff, 0), tick(0x8000, 0), plain()];
+    add(list, "tick-notes-12-fifteen-rows", table(&light_rows(15)), &fifteen);
+}
+
+fn needless_done_noted(list: &mut Vec<RunVector>) {
+    let mut on_a = |name: &str, events: &[Vec<u8>]| add(list, name, table_a(), events);
+    on_a("tick-notes-13-no-tick-before", &[tick(3, DONE), tick(0, DONE), plain()]);
+    on_a("tick-notes-13-after-soft", &[tick(3, SOFT), tick(0, DONE), tick(0, DONE), plain()]);
     on_a(
-        "tick-refusal-14-until-rested",
+        "tick-notes-13-with-soft",
+        &[tick(3, DONE | SOFT), tick(0, DONE | SOFT), plain(), tick(0, DONE | SOFT), plain()],
+    );
+    on_a("tick-notes-13-after-idle", &[plain(), tick(1, DONE), tick(0, DONE), plain()]);
+    on_a("tick-notes-13-done-twice", &[tick(1, 0), tick(0, DONE), tick(0, DONE), plain()]);
+    // The job is not closed by the flag that is noted, and runs to its end.
+    on_a(
+        "tick-notes-13-of-a-job-that-waits",
+        &[tick(1, 0), tick(0, SOFT), tick(0, DONE), plain(), plain()],
+    );
+    on_a(
+        "tick-notes-13-of-an-upload-that-closed",
+        &[offer(2, 4), plain(), tick(0, DONE), tick(0, DONE), plain()],
+    );
+}
+
+fn unready_rows_noted(list: &mut Vec<RunVector>) {
+    let mut on_a = |name: &str, events: &[Vec<u8>]| add(list, name, table_a(), events);
+    on_a("tick-notes-14-until-rested", &[times(26, tick(3, 0)), plain()]);
+    on_a(
+        "tick-notes-14-one-tick-early",
+        &[tick(1, 0), times(6, plain()), tick(1, 0), tick(1, 0), times(3, plain())],
+    );
+    // Promotion is counted from the two good releases, at 0 and 8.
+    on_a(
+        "tick-notes-14-between-two-releases",
         &[
-            tick(3, 0),
-            times(7, plain()),
-            tick(2, 0),
-            tick(1, 0),
-            times(3, plain()),
-            tick(2, 0),
-            plain(),
+            tick(1, SOFT),
+            times(2, tick(0, SOFT)),
+            tick(1, SOFT),
+            times(4, tick(0, SOFT)),
+            tick(1, SOFT),
+            times(6, tick(0, SOFT)),
         ],
     );
-    on_a(
-        "tick-refusal-14-one-tick-early",
-        &[tick(1, 0), times(6, plain()), tick(1, 0), plain(), tick(1, 0), plain()],
-    );
-    on_a(
-        "tick-refusal-14-with-the-last-runner-kept",
-        &[tick(3, 0), tick(1, DONE), tick(2, DONE), tick(0x10, DONE), tick(0, DONE), plain()],
-    );
-    let refused = [tick(1, 0), tick(1, 0), tick(1, 0)];
-    add(list, "tick-refusal-12-empty-table", empty_table(), &refused);
+    on_a("tick-notes-14-beside-a-release", &[tick(1, SOFT), tick(3, 0), times(8, plain())]);
+    // Closed by this very call, and yet not rested.
+    on_a("tick-notes-14-of-a-row-that-closes", &[tick(1, 0), tick(1, DONE), tick(1, 0), plain()]);
+    // Every T ticks this row closes and is released by one call: as spent, as
+    // done, and as spent again.
+    let full = table(&[(4, 4, 4, 0)]);
+    let asks = |how_many| times(how_many, tick(1, 0));
+    let closes = [asks(8), tick(1, DONE), asks(7), plain()];
+    add(list, "tick-notes-14-until-this-call-closes", full, &closes);
     let sixteen = table(&light_rows(16));
-    let high = [tick(0x8000, 0), tick(0x8000, 0), tick(0x7fff, 0), tick(0xffff, 0), plain()];
-    add(list, "tick-refusal-14-sixteenth-row", sixteen, &high);
+    let high = [tick(0x8000, 0), tick(0x8000, 0), tick(0xffff, 0), tick(0xffff, 0), plain()];
+    add(list, "tick-notes-14-sixteen-rows", sixteen, &high);
+}
+
+fn several_noted(list: &mut Vec<RunVector>) {
+    let mut on_a = |name: &str, events: &[Vec<u8>]| add(list, name, table_a(), events);
+    on_a("tick-notes-12-13-together", &[tick(4, DONE), plain()]);
+    on_a("tick-notes-12-14-together", &[tick(3, 0), tick(7, 0), plain()]);
+    on_a("tick-notes-13-14-together", &[tick(1, SOFT), tick(1, DONE), tick(0, DONE), plain()]);
+    on_a(
+        "tick-notes-12-13-14-together",
+        &[tick(3, SOFT), tick(0xffff, DONE | SOFT), tick(0xffff, DONE), tick(0, DONE), plain()],
+    );
+    on_a(
+        "tick-notes-12-13-14-beside-a-release",
+        &[tick(1, SOFT), tick(0x8003, DONE), tick(0, DONE), times(9, plain())],
+    );
+    on_a(
+        "tick-notes-12-13-14-in-turn-and-closings",
+        &[tick(3, 0), tick(1, DONE), tick(0x10, DONE), tick(0, DONE), plain()],
+    );
 }
 
 /// 15 to 18: after these the program goes on.
@@ -551,17 +614,12 @@ fn eager(table: &[u8], ticks: u64, offer_every: u64) -> Vec<u8> {
         let mut releases = 0;
         for row in 1..=maker.station.rows.len() {
             if maker.station.rows[row - 1].rested(maker.station.time) {
-                releases += bit(row);
+                releases += row_bit(row);
             }
         }
         maker.event(tick(releases, SOFT));
     }
     maker.bytes
-}
-
-/// The release set with this row only, counted from 1.
-fn bit(row: usize) -> u16 {
-    2_u16.pow(row as u32 - 1)
 }
 
 /// A list of events, and the station they lead to: what the next event may be
@@ -581,7 +639,7 @@ impl Maker {
     fn event(&mut self, field: Vec<u8>) {
         match read_event(&field, 0) {
             Found::Event(Event::Tick { releases, done, soft }, _) => {
-                let _ = self.station.tick(releases, done, soft);
+                self.station.tick(releases, done, soft);
             }
             Found::Event(Event::Offer { budget, deadline }, _) => {
                 let _ = self.station.offer(budget, deadline);
@@ -591,29 +649,30 @@ impl Maker {
         self.bytes.extend(field);
     }
 
-    /// A random tick: mostly one that is accepted.
+    /// A random tick: mostly one in which nothing is noted.
     fn random_tick(&mut self, random: &mut Random, soft: bool) {
         let mut releases = 0;
         for row in 1..=16 {
             let released = match self.station.rows.get(row - 1) {
                 Some(hard) if hard.rested(self.station.time) => random.once_in(6),
-                Some(_) => random.once_in(400),
-                None => random.once_in(900),
+                Some(_) => random.once_in(100),
+                None => random.once_in(200),
             };
             if released {
-                releases += bit(row);
+                releases += row_bit(row);
             }
         }
-        let ran_job = matches!(self.station.last, Last::Hard(_) | Last::Firm);
-        let done = random.once_in(if ran_job { 5 } else { 50 });
-        let mut flags = 0;
-        if done {
-            flags += DONE;
-        }
-        if soft {
-            flags += SOFT;
-        }
-        self.event(tick(releases, flags));
+        let done = random.once_in(if self.station.ran_job() { 5 } else { 50 });
+        self.event(tick(releases, flags(done, soft)));
+    }
+
+    /// A tick on a noisy line: any bits, of rows that are not ready and not there
+    /// too, and done whatever ran.
+    fn noisy_tick(&mut self, random: &mut Random) {
+        let any = |random: &mut Random| random.below(1 << 16) as u16;
+        let releases = any(random) & any(random);
+        let (done, soft) = (random.once_in(3), random.once_in(2));
+        self.event(tick(releases, flags(done, soft)));
     }
 
     /// The largest budget with room in this window, 0 if none.
@@ -654,6 +713,27 @@ impl Maker {
                 self.random_tick(random, soft);
             }
         }
+    }
+}
+
+fn flags(done: bool, soft: bool) -> u8 {
+    u8::from(done) * DONE + u8::from(soft) * SOFT
+}
+
+/// Random tables on a noisy line, with an offer now and then.
+fn noises(list: &mut Vec<RunVector>) {
+    for seed in 1..=8 {
+        let mut random = Random::new(600 + seed);
+        let n = 2 * seed;
+        let file = random_accepted(&mut random, n, 20 * n);
+        let mut maker = Maker::new(&file);
+        for _ in 0..200 {
+            if random.once_in(10) {
+                maker.random_offer(&mut random, 60);
+            }
+            maker.noisy_tick(&mut random);
+        }
+        add(list, &format!("random-noise-{seed}"), file, &[maker.bytes]);
     }
 }
 
@@ -720,7 +800,6 @@ fn lengths(list: &mut Vec<RunVector>) {
         maker.event(plain());
     }
     maker.event(tick(4, 0));
-    maker.event(plain());
     maker.event(tick(4, 0));
     let left = EVENTS_LIMIT - maker.bytes.len() - 7 * 300;
     maker.mixed(&mut random, left as u64 / 6, 300, 40);

@@ -1,9 +1,9 @@
-//! A check of the rules as they are read here: in random runs every hard job
-//! has its C by its deadline less its margin, and every accepted firm job its
-//! budget by its own.
+//! A check of the rules as they are read here: in random runs, with calls that
+//! are noted among them, every hard job has its C by its deadline less its margin,
+//! and every accepted firm job its budget by its own.
 
 use reference::random::Random;
-use reference::station::{releases_row, Closing, Job, Last, Runner, Station};
+use reference::station::{releases_row, row_bit, Closing, Job, Notes, Runner, Station};
 use reference::table::read_table;
 use reference::vectors::{random_accepted, random_margins};
 
@@ -13,15 +13,32 @@ struct Promise {
     by: u128,
 }
 
-/// A release set with random rested rows.
+/// A release set with random rested rows, and now and then rows that are not, or
+/// are not there.
 fn random_releases(random: &mut Random, station: &Station) -> u16 {
-    let mut releases = 0;
-    for (index, hard) in station.rows.iter().enumerate() {
-        if hard.rested(station.time) && !random.once_in(3) {
-            releases += 2_u16.pow(index as u32);
+    let noisy = random.once_in(4);
+    let mut wanted = |row: usize| match station.rows.get(row - 1) {
+        Some(hard) if hard.rested(station.time) => !random.once_in(3),
+        _ => noisy && random.once_in(3),
+    };
+    (1..=16).filter(|&row| wanted(row)).map(row_bit).sum()
+}
+
+/// From a fresh station, a rested row has no open job. So a row is released
+/// where its bit was set and it was rested; every other set bit is noted.
+fn check_releases(before: &Station, after: &Station, releases: u16, notes: Notes) {
+    for row in 1..=16 {
+        let set = releases_row(releases, row);
+        let known = row <= before.rows.len();
+        let rested = known && before.rows[row - 1].rested(before.time);
+        assert_eq!(releases_row(notes.unknown, row), set && !known);
+        assert_eq!(releases_row(notes.not_ready, row), set && known && !rested);
+        if known && set && rested {
+            assert_eq!(after.rows[row - 1].last_release, Some(before.time));
+        } else if known {
+            assert_eq!(after.rows[row - 1].last_release, before.rows[row - 1].last_release);
         }
     }
-    releases
 }
 
 fn check_hard(station: &Station) {
@@ -46,6 +63,7 @@ fn check_firm(station: &Station, promises: &[Promise]) {
 #[test]
 fn no_job_is_late() {
     let (mut hard_closed, mut with_margin, mut firm_closed, mut firm_ran) = (0, 0, 0, 0);
+    let mut noted = 0;
     for seed in 0..300 {
         let mut random = Random::new(seed);
         let n = random.between(1, 6);
@@ -65,19 +83,15 @@ fn no_job_is_late() {
                     promises.push(Promise { number, by: station.time + u128::from(deadline) });
                 }
             }
-            let ran_job = matches!(station.last, Last::Hard(_) | Last::Firm);
-            let done = ran_job && random.once_in(10);
+            let done = random.once_in(10);
             let releases = random_releases(&mut random, &station);
             let soft = random.once_in(2);
-            let before = station.time;
-            // From a fresh station, a rested row has no open job: no 14.
-            let answer = station.tick(releases, done, soft).expect("the tick is accepted");
-            assert_eq!(station.time, before + 1);
-            for row in 1..=station.rows.len() {
-                if releases_row(releases, row) {
-                    assert_eq!(station.rows[row - 1].last_release, Some(before));
-                }
-            }
+            let before = station.clone();
+            let answer = station.tick(releases, done, soft);
+            assert_eq!(station.time, before.time + 1);
+            assert_eq!(answer.notes.none_ran, done && !before.ran_job());
+            check_releases(&before, &station, releases, answer.notes);
+            noted += u64::from(answer.notes != Notes::default());
             match answer.closing {
                 Closing::Done(Job::Hard(row)) | Closing::Spent(Job::Hard(row)) => {
                     hard_closed += 1;
@@ -94,4 +108,5 @@ fn no_job_is_late() {
         }
     }
     assert!(hard_closed > 1000 && with_margin > 1000 && firm_closed > 1000 && firm_ran > 1000);
+    assert!(noted > 10_000);
 }

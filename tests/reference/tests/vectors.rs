@@ -1,5 +1,5 @@
 //! The vectors: their names keep what they say, the files on disk are the ones
-//! the reference makes, and the set leaves no refusal out.
+//! the reference makes, and the set leaves no refusal and no note out.
 
 use reference::vectors::{write_plan, write_run};
 use reference::{vectors_plan, vectors_run};
@@ -13,20 +13,37 @@ fn number_after(name: &str, word: &str) -> Option<u8> {
     rest.get(..2)?.parse().ok()
 }
 
-/// The numbers of the refusals that a text prints.
-fn refusals(text: &str) -> BTreeSet<u8> {
-    let lines = text.lines().filter_map(|line| line.strip_prefix("refused "));
-    lines.map(|rest| rest.split(' ').next().unwrap().parse().unwrap()).collect()
+/// The numbers after `notes-` in the name.
+fn promised_notes(name: &str) -> BTreeSet<u8> {
+    let words = name.split_once("notes-").map_or("", |(_, rest)| rest).split('-');
+    words.map_while(|word| word.parse().ok()).collect()
 }
 
-/// A name with a number in it promises that this refusal is printed; one that
-/// ends in `too-long`, that nothing but `too long` is.
+/// The numbers of the lines that start with this word.
+fn numbers(text: &str, word: &str) -> BTreeSet<u8> {
+    let lines = text.lines().filter_map(|line| line.strip_prefix(word));
+    lines.map(|rest| rest.split(' ').nth(1).unwrap().parse().unwrap()).collect()
+}
+
+fn refusals(text: &str) -> BTreeSet<u8> {
+    numbers(text, "refused")
+}
+
+fn notes(text: &str) -> BTreeSet<u8> {
+    numbers(text, "note")
+}
+
+/// A name with a number in it promises that this refusal is printed, or these
+/// notes and no other; one that ends in `too-long`, that nothing but `too long`
+/// is.
 fn keeps_its_promise(name: &str, want: &str) {
     for word in ["refusal-", "gives-"] {
         if let Some(number) = number_after(name, word) {
             assert!(refusals(want).contains(&number), "{name}: {want}");
         }
     }
+    let promised = promised_notes(name);
+    assert!(promised.is_empty() || promised == notes(want), "{name}: {want}");
     assert_eq!(name.ends_with("too-long"), want == "too long\n", "{name}: {want}");
 }
 
@@ -46,17 +63,17 @@ fn plan_vectors_keep_their_promise() {
 #[test]
 fn run_vectors_keep_their_promise() {
     let mut printed = BTreeSet::new();
+    let mut noted = BTreeSet::new();
     let mut names = BTreeSet::new();
     for vector in vectors_run::all() {
         let want = vector.want();
         keeps_its_promise(&vector.name, &want);
         printed.extend(refusals(&want));
+        noted.extend(notes(&want));
         assert!(names.insert(vector.name.clone()), "{} is there twice", vector.name);
     }
-    let mut all: BTreeSet<u8> = (1..=18).collect();
-    all.remove(&11);
-    all.extend(20..=22);
-    assert_eq!(printed, all);
+    assert_eq!(printed, (1..=10).chain(15..=18).chain(20..=22).collect());
+    assert_eq!(noted, (12..=14).collect());
 }
 
 /// Every file below a folder, by its path from there.
