@@ -1,9 +1,10 @@
 /* kernel.c: a small kernel that asks Heechstjer at every tick who runs.
  *
  * What a port supplies stands in the first half: a block, a table, a tick interrupt, and an offer where a record
- * waits for upload. Three calls, and one rule: an upload is complete only when it closed as done. The second
- * half plays the station: a sampling job, a storing job, and a modem whose line is down for one tick. Printed is
- * a line a tick, as in document 01's listing, and at the end which upload arrived.
+ * waits for upload. Three calls, and two rules: an upload is complete only when it closed as done; and what a tick
+ * notes is logged, for time has gone on. The second half plays the station: a sampling job, a storing job, a modem
+ * whose line is down for one tick, and noise on the lines that say which row is due. Printed is a line a tick and
+ * one a note, as `run` prints them, and at the end which upload arrived.
  */
 #include <heechstjer.h>
 #include <inttypes.h>
@@ -31,11 +32,13 @@ static struct { uint32_t ticket; enum fate fate; } upload[MOST_OFFERS];
 
 static void tick_interrupt(unsigned now);
 static void offer_record(void);
-static void note_closing(heechstjer_tick_answer answer);
+static void record_closing(heechstjer_tick_answer answer);
+static void log_notes(heechstjer_tick_answer answer);
 static uint16_t rows_due(unsigned now);
 static bool soft_work_waits(unsigned now);
 static bool run_for_one_tick(heechstjer_tick_answer answer);
 static void print_tick(heechstjer_tick_answer answer);
+static void print_note(unsigned number, unsigned bits);
 static void print_uploads(void);
 static void stop(const char *call, unsigned refusal);
 
@@ -66,7 +69,9 @@ static void tick_interrupt(unsigned now)
     if (answer.refusal != HEECHSTJER_ACCEPTED)
         stop("tick", answer.refusal);
     print_tick(answer);
-    note_closing(answer);
+    if (heechstjer_noted(answer))
+        log_notes(answer);
+    record_closing(answer);
     finished = run_for_one_tick(answer);
 }
 
@@ -88,9 +93,9 @@ static void offer_record(void)
     record_waits = false;
 }
 
-/* The rule. Closed as done, the record is there. Closed as spent, its ticks are gone and nobody said that the last
- * byte arrived: it has not, and the record is offered again. */
-static void note_closing(heechstjer_tick_answer answer)
+/* The first rule. Closed as done, the record is there. Closed as spent, its ticks are gone and nobody said that the
+ * last byte arrived: it has not, and the record is offered again. */
+static void record_closing(heechstjer_tick_answer answer)
 {
     if (offers == 0 || !heechstjer_upload_closed(answer, upload[offers - 1].ticket))
         return;
@@ -102,10 +107,28 @@ static void note_closing(heechstjer_tick_answer answer)
     }
 }
 
+/* The second rule. The tick was stepped without what it noted. A release that is still wanted would be asked for again
+ * in a later tick; here it was noise, and nobody wants it. */
+static void log_notes(heechstjer_tick_answer answer)
+{
+    if (answer.unknown != 0)
+        print_note(HEECHSTJER_NOTE_UNKNOWN_ROW, answer.unknown);
+    if (answer.none_ran != 0)
+        print_note(HEECHSTJER_NOTE_NONE_RAN, 0);
+    if (answer.not_ready != 0)
+        print_note(HEECHSTJER_NOTE_NOT_READY, answer.not_ready);
+}
+
 /* ---- The station that is played ---- */
 
-enum { SAMPLE_WORK = 2, STORE_WORK = 4, RECORD_PARTS = 3, LINE_DOWN = 3 };
+enum { SAMPLE_WORK = 2, STORE_WORK = 4, RECORD_PARTS = 3, LINE_DOWN = 3, NO_ROW = 16 };
 
+static bool noise_on_the_lines(unsigned now)
+{
+    return now % 9 == 6;
+}
+
+/* With noise on the lines also a row that isn't there, and one that is released already: in tick 15 a tick too early. */
 static uint16_t rows_due(unsigned now)
 {
     uint16_t due = 0;
@@ -113,6 +136,10 @@ static uint16_t rows_due(unsigned now)
         due |= heechstjer_row_bit(SAMPLE);
     if (now % STORE_PERIOD == 0)
         due |= heechstjer_row_bit(STORE);
+    if (noise_on_the_lines(now)) {
+        due |= heechstjer_row_bit(SAMPLE);
+        due |= heechstjer_row_bit(NO_ROW);
+    }
     return due;
 }
 
@@ -172,6 +199,14 @@ static void print_tick(heechstjer_tick_answer answer)
         printf(" -");
     if (answer.closing != HEECHSTJER_CLOSING_NONE)
         printf(" %s", answer.closing == HEECHSTJER_CLOSING_DONE ? "done" : "spent");
+    printf("\n");
+}
+
+static void print_note(unsigned number, unsigned bits)
+{
+    printf("note %u", number);
+    if (bits != 0)
+        printf(" %04x", bits);
     printf("\n");
 }
 

@@ -16,6 +16,7 @@
  *   where 0 says accepted.
  * - A refusal writes nothing: every byte of block and output is as before the call, and the next call is answered
  *   as if the refused one had not been made. Every field of the answer that the refusal isn't said to give is 0.
+ *   What a tick notes (12, 13, 14) is no refusal: such a tick is accepted.
  * - An answer may have padding, whose bytes say nothing: compare fields, not bytes.
  * - The answer and the bytes written depend on the arguments and the block's bytes alone. So a copy of a
  *   block, at any address, is the same state; and two blocks know nothing of each other.
@@ -48,9 +49,9 @@ extern "C" {
 #endif
 
 /* The version of header and library, which `pkg-config --modversion heechstjer` gives too. */
-#define HEECHSTJER_VERSION "0.2.0"
+#define HEECHSTJER_VERSION "0.3.0"
 #define HEECHSTJER_VERSION_MAJOR 0
-#define HEECHSTJER_VERSION_MINOR 2
+#define HEECHSTJER_VERSION_MINOR 3
 #define HEECHSTJER_VERSION_PATCH 0
 
 /* Sizes. */
@@ -97,9 +98,6 @@ enum heechstjer_refusal {
     HEECHSTJER_REFUSED_BAD_RANK = 9,      /* row: rank >= n, or used by an earlier row */
     HEECHSTJER_REFUSED_PASSES_D = 10,     /* row: the iteration of its response bound passes D */
     HEECHSTJER_REFUSED_NOT_IMAGE = 11,    /* block: not 512 bytes, or not the image of a state */
-    HEECHSTJER_REFUSED_UNKNOWN_ROW = 12,  /* tick: a release bit of a row above n */
-    HEECHSTJER_REFUSED_NONE_RAN = 13,     /* tick: done, and the last accepted tick ran no hard or firm job */
-    HEECHSTJER_REFUSED_NOT_READY = 14,    /* tick: a released row isn't rested, or its job is still open */
     HEECHSTJER_REFUSED_B_ZERO = 15,       /* offer: B = 0 */
     HEECHSTJER_REFUSED_D_UNDER_B = 16,    /* offer: d < B */
     HEECHSTJER_REFUSED_QUEUE_FULL = 17,   /* offer: 8 firm jobs are queued */
@@ -108,6 +106,13 @@ enum heechstjer_refusal {
     HEECHSTJER_REFUSED_UNKNOWN_FLAG = 20, /* tick: a flag bit other than done and soft */
     HEECHSTJER_REFUSED_M_ZERO = 21,       /* row: tag 02 with M = 0 */
     HEECHSTJER_REFUSED_R_M_OVER_D = 22    /* row: R + M > D, the bound leaves no room for the margin */
+};
+
+/* What an accepted tick may note, by the documents' numbers. A note is no refusal. */
+enum heechstjer_note {
+    HEECHSTJER_NOTE_UNKNOWN_ROW = 12, /* release bits of rows above n */
+    HEECHSTJER_NOTE_NONE_RAN = 13,    /* done, and the last accepted tick ran no hard or firm job */
+    HEECHSTJER_NOTE_NOT_READY = 14    /* release bits of rows that aren't rested, or whose job is still open */
 };
 
 /* The flags of a tick, one number. */
@@ -159,8 +164,10 @@ typedef struct heechstjer_tick_answer {
     uint32_t clock;         /* this tick: the accepted ticks before it since planning, modulo 2^32; 0 if refused */
     uint32_t ticket;        /* the ticket of the runner, if firm, else 0 */
     uint32_t closed_ticket; /* the ticket of the job that closed, if firm, else 0 */
-    uint8_t refusal;        /* 0, 11 to 14, or 20 */
-    uint8_t row;            /* refusals 12 and 14: the row of the lowest offending bit, 1 to 16, else 0 */
+    uint16_t unknown;       /* note 12: the release bits of rows above n, else 0 */
+    uint16_t not_ready;     /* note 14: the release bits of rows that could not be released, else 0 */
+    uint8_t refusal;        /* 0, 11 or 20 */
+    uint8_t none_ran;       /* note 13: 1 if done was said and no job had run, else 0 */
     uint8_t runner;         /* enum heechstjer_runner: 1 to 4 if accepted, 0 if refused */
     uint8_t runner_row;     /* the row of the runner, 1 to 16, if hard, else 0 */
     uint8_t band;           /* enum heechstjer_band: 1 or 2 if the runner is hard, else 0 */
@@ -203,11 +210,11 @@ heechstjer_plan_answer heechstjer_plan(uint8_t *block, size_t block_bytes, const
 /* Steps one tick. Bit 0 of released releases row 1, bit 15 row 16. flags is HEECHSTJER_FLAG_DONE,
  * HEECHSTJER_FLAG_SOFT, both or 0.
  *
- * Accepted: refusal and row are 0, and in this order
+ * Accepted: refusal is 0, and in this order
  *   closed   the job that the last accepted tick ran closes: as done if the done flag is set, else as spent if it
  *            has run its whole C or budget, else not at all. No other job closes. closed, closed_row or
  *            closed_ticket, and closing say so. Without the done flag, closing is never done.
- *   released each set bit opens a job of that row.
+ *   released each set bit that is not noted opens a job of that row.
  *   chosen   the first that exists: the promoted job of the smallest row; the upload accepted first; soft work,
  *            if its flag is set; the unpromoted job of the smallest rank; idle. A job is promoted from U
  *            ticks after its release on, that tick included. runner, with runner_row and band or ticket, says who.
@@ -216,15 +223,20 @@ heechstjer_plan_answer heechstjer_plan(uint8_t *block, size_t block_bytes, const
  * its release on, whatever else is called, and never more than C times from one release to the next. The M ticks from
  * there to D are to spare.
  *
+ * Noted: bits and a flag that can't be, each of them listed. They count as clear, and the tick is stepped.
+ *   12  unknown has the set bits of rows above n.
+ *   13  none_ran is 1 where the done flag is set, and the last accepted tick ran soft work or nothing, or there was
+ *       none since planning. Refused ticks and offers in between don't count.
+ *   14  not_ready has the set bits of rows 1 to n that were released fewer than T accepted ticks ago, or have a job
+ *       open which this call doesn't close.
+ * Time has gone on, so don't make the call again: log what was noted, and go on. A release that was noted did not
+ * happen: who still wants it sets the bit again in a later tick. The promise above is about releases whose bit was
+ * set and not noted, and its D - M ticks are accepted ones, with or without notes.
+ *
  * Checks, in this order:
  *   20  a flag bit other than done and soft.
  *   11  block_bytes is not 512, or the block's bytes are not the image of a state.
- *   12  a bit of a row above n. row is the lowest such row.
- *   13  the done flag, and the last accepted tick ran soft work or nothing, or there was none since planning.
- *       Refused ticks and offers in between don't count.
- *   14  a row that was released fewer than T accepted ticks ago, or that has a job open which this call doesn't
- *       close. row is the lowest such row.
- * Refused: the clock stands still, nothing closes, nothing is released, nobody runs.
+ * Refused: the clock stands still, nothing closes, nothing is released, nobody runs, nothing is noted.
  */
 heechstjer_tick_answer heechstjer_tick(uint8_t *block, size_t block_bytes, uint16_t released, uint8_t flags);
 
@@ -298,6 +310,12 @@ static inline uint16_t heechstjer_row_bit(unsigned row)
 {
     const unsigned bit = row >= 1 && row <= HEECHSTJER_MOST_ROWS ? 1u << (row - 1) : 0u;
     return bit & 0xffffu;
+}
+
+/* Whether anything was noted in this tick. */
+static inline bool heechstjer_noted(heechstjer_tick_answer answer)
+{
+    return answer.unknown != 0 || answer.none_ran != 0 || answer.not_ready != 0;
 }
 
 /* Whether this tick closed the upload of this ticket, done or spent. */
