@@ -21,18 +21,20 @@ AT(plan, size, 8);
 AT(plan, refusal, 16);
 AT(plan, row, 17);
 
-HELD(tick_answer_has_20_bytes, sizeof(heechstjer_tick_answer) == 20);
+HELD(tick_answer_has_24_bytes, sizeof(heechstjer_tick_answer) == 24);
 AT(tick, clock, 0);
 AT(tick, ticket, 4);
 AT(tick, closed_ticket, 8);
-AT(tick, refusal, 12);
-AT(tick, row, 13);
-AT(tick, runner, 14);
-AT(tick, runner_row, 15);
-AT(tick, band, 16);
-AT(tick, closed, 17);
-AT(tick, closed_row, 18);
-AT(tick, closing, 19);
+AT(tick, unknown, 12);
+AT(tick, not_ready, 14);
+AT(tick, refusal, 16);
+AT(tick, none_ran, 17);
+AT(tick, runner, 18);
+AT(tick, runner_row, 19);
+AT(tick, band, 20);
+AT(tick, closed, 21);
+AT(tick, closed_row, 22);
+AT(tick, closing, 23);
 
 HELD(offer_answer_has_8_bytes, sizeof(heechstjer_offer_answer) == 8);
 AT(offer, ticket, 0);
@@ -160,12 +162,11 @@ static bool well_formed(heechstjer_tick_answer a)
     bool firm = a.runner == HEECHSTJER_RUNNER_FIRM;
     bool closed_hard = a.closed == HEECHSTJER_CLOSED_HARD;
     bool closed_firm = a.closed == HEECHSTJER_CLOSED_FIRM;
-    bool names_row = a.refusal == 12 || a.refusal == 14;
     if (a.refusal != 0)
-        return (names_row ? a.row >= 1 && a.row <= 16 : a.row == 0)
+        return (a.refusal == 11 || a.refusal == 20) && !heechstjer_noted(a)
             && a.clock == 0 && a.ticket == 0 && a.runner == 0 && a.runner_row == 0 && a.band == 0
             && a.closed == 0 && a.closed_row == 0 && a.closed_ticket == 0 && a.closing == 0;
-    return a.row == 0 && a.runner >= 1 && a.runner <= 4
+    return (a.unknown & a.not_ready) == 0 && a.none_ran <= 1 && a.runner >= 1 && a.runner <= 4
         && (hard ? a.runner_row >= 1 && a.runner_row <= 16 : a.runner_row == 0)
         && (hard ? a.band == 1 || a.band == 2 : a.band == 0) && (firm || a.ticket == 0)
         && a.closed <= 2 && (closed_hard ? a.closed_row >= 1 && a.closed_row <= 16 : a.closed_row == 0)
@@ -173,16 +174,25 @@ static bool well_formed(heechstjer_tick_answer a)
         && (a.closed == 0 ? a.closing == 0 : a.closing == 1 || a.closing == 2);
 }
 
-/* Whether a tick's answer is this line of document 01's listing; a refusal is "refused 11", "refused 14 row 1". */
+/* The words of a tick's notes: " note 12 8004", " note 13", " note 14 0001", those that there are. */
+static void write_notes(char *out, size_t bytes, heechstjer_tick_answer a)
+{
+    char unknown[16] = "", not_ready[16] = "";
+    if (a.unknown != 0)
+        snprintf(unknown, sizeof unknown, " note 12 %04x", a.unknown);
+    if (a.not_ready != 0)
+        snprintf(not_ready, sizeof not_ready, " note 14 %04x", a.not_ready);
+    snprintf(out, bytes, "%s%s%s", unknown, a.none_ran != 0 ? " note 13" : "", not_ready);
+}
+
+/* Whether a tick's answer is this line of document 01's listing, its notes after it; a refusal is "refused 11". */
 static bool says(heechstjer_tick_answer a, const char *line)
 {
-    char text[80], runner[16], closing[32];
+    char text[120], runner[16], closing[32], notes[48];
     if (!well_formed(a))
         return false;
     if (a.refusal != 0) {
-        int length = snprintf(text, sizeof text, "refused %u", a.refusal);
-        if (a.row != 0)
-            snprintf(text + length, sizeof text - (size_t)length, " row %u", a.row);
+        snprintf(text, sizeof text, "refused %u", a.refusal);
         return strcmp(text, line) == 0;
     }
     if (a.runner == HEECHSTJER_RUNNER_HARD)
@@ -198,7 +208,8 @@ static bool says(heechstjer_tick_answer a, const char *line)
         snprintf(closing, sizeof closing, "F%lu %s", (unsigned long)a.closed_ticket, how);
     else
         snprintf(closing, sizeof closing, "-");
-    snprintf(text, sizeof text, "%lu %s %s", (unsigned long)a.clock, runner, closing);
+    write_notes(notes, sizeof notes, a);
+    snprintf(text, sizeof text, "%lu %s %s%s", (unsigned long)a.clock, runner, closing, notes);
     return strcmp(text, line) == 0;
 }
 
@@ -207,7 +218,16 @@ static bool ticks(station *s, unsigned released, unsigned flags, const char *lin
 {
     station before = *s;
     heechstjer_tick_answer a = heechstjer_tick_in(s->block, (uint16_t)released, (uint8_t)flags);
-    return says(a, line) && guards_stand(s) && (a.refusal == 0 ? !same_block(s, &before) : same_block(s, &before));
+    return says(a, line) && guards_stand(s) && heechstjer_noted(a) == (strstr(line, "note") != NULL)
+        && (a.refusal == 0 ? !same_block(s, &before) : same_block(s, &before));
+}
+
+/* Whether two answers agree in all but their notes. */
+static bool same_tick(heechstjer_tick_answer a, heechstjer_tick_answer b)
+{
+    return a.refusal == b.refusal && a.clock == b.clock && a.runner == b.runner && a.runner_row == b.runner_row
+        && a.band == b.band && a.ticket == b.ticket && a.closed == b.closed && a.closed_row == b.closed_row
+        && a.closed_ticket == b.closed_ticket && a.closing == b.closing;
 }
 
 /* As many ticks with nothing released and no flag. */
@@ -274,14 +294,14 @@ static station at_clock_2(void)
 
 /* ---- The names ---- */
 
-static void refusals_have_their_numbers(void)
+static void refusals_and_notes_have_their_numbers(void)
 {
     static const int numbers[] = {
         HEECHSTJER_ACCEPTED, HEECHSTJER_REFUSED_CUT, HEECHSTJER_REFUSED_UNKNOWN_TAG, HEECHSTJER_REFUSED_WRONG_LENGTH,
         HEECHSTJER_REFUSED_AFTER_END, HEECHSTJER_REFUSED_ROW_17, HEECHSTJER_REFUSED_C_ZERO, HEECHSTJER_REFUSED_C_OVER_D,
         HEECHSTJER_REFUSED_D_OVER_T, HEECHSTJER_REFUSED_BAD_RANK, HEECHSTJER_REFUSED_PASSES_D,
-        HEECHSTJER_REFUSED_NOT_IMAGE, HEECHSTJER_REFUSED_UNKNOWN_ROW, HEECHSTJER_REFUSED_NONE_RAN,
-        HEECHSTJER_REFUSED_NOT_READY, HEECHSTJER_REFUSED_B_ZERO, HEECHSTJER_REFUSED_D_UNDER_B,
+        HEECHSTJER_REFUSED_NOT_IMAGE, HEECHSTJER_NOTE_UNKNOWN_ROW, HEECHSTJER_NOTE_NONE_RAN,
+        HEECHSTJER_NOTE_NOT_READY, HEECHSTJER_REFUSED_B_ZERO, HEECHSTJER_REFUSED_D_UNDER_B,
         HEECHSTJER_REFUSED_QUEUE_FULL, HEECHSTJER_REFUSED_ROOM_SHORT, HEECHSTJER_REFUSED_SMALL_OUTPUT,
         HEECHSTJER_REFUSED_UNKNOWN_FLAG, HEECHSTJER_REFUSED_M_ZERO, HEECHSTJER_REFUSED_R_M_OVER_D,
     };
@@ -661,51 +681,108 @@ static void the_listing_of_document_01(void)
     EXPECT(ticks(&s, 0, SOFT, "1 S -"));
     EXPECT(takes(&s, 2, 4, 0));
     EXPECT(ticks(&s, 0, 0, "2 F0 -"));
-    EXPECT(ticks(&s, 1, 0, "refused 14 row 1"));
-    EXPECT(ticks(&s, 0, 0, "3 F0 -"));
+    EXPECT(ticks(&s, 1, 0, "3 F0 - note 14 0001"));
     EXPECT(ticks(&s, 0, 0, "4 U1 F0 spent"));
-    EXPECT(ticks(&s, 0, DONE, "5 U2 H1 done"));
+    EXPECT(ticks(&s, 0, 0, "5 U2 H1 spent"));
+    EXPECT(ticks(&s, 0, DONE, "6 I H2 done"));
 }
 
-static void refusal_12_names_the_lowest_row_above_n(void)
+static void note_12_lists_the_rows_above_n(void)
 {
     station s = planned(table_a, sizeof table_a), none = planned(empty_table, sizeof empty_table);
-    EXPECT(ticks(&s, 0x8008, 0, "refused 12 row 4"));
-    EXPECT(ticks(&s, 0x8003, 0, "refused 12 row 16"));
-    EXPECT(ticks(&s, 0x0004, 0, "refused 12 row 3"));
-    EXPECT(ticks(&none, 0x0001, 0, "refused 12 row 1"));
-    EXPECT(ticks(&s, 0x0003, 0, "0 L1 -"));
+    EXPECT(ticks(&s, 0x8008, 0, "0 I - note 12 8008"));
+    EXPECT(ticks(&s, 0xfffc, SOFT, "1 S - note 12 fffc"));
+    EXPECT(ticks(&s, 0x8001, 0, "2 L1 - note 12 8000")); /* row 1 is released all the same */
+    EXPECT(ticks(&s, 0x0004, DONE, "3 I H1 done note 12 0004"));
+    EXPECT(ticks(&none, 0xffff, 0, "0 I - note 12 ffff"));
+    EXPECT(ticks(&none, 0, 0, "1 I -"));
 }
 
-static void refusal_13_where_no_job_ran(void)
+static void note_12_for_every_bit_above_n(void)
+{
+    for (unsigned n = 0; n <= 16; n++) {
+        uint16_t rows[16][NUMBERS];
+        for (uint16_t i = 0; i < n; i++) {
+            rows[i][C] = 1;
+            rows[i][D] = rows[i][T] = 100;
+            rows[i][RANK] = i;
+            rows[i][M] = 0;
+        }
+        station s = planned_rows((const uint16_t(*)[NUMBERS])rows, n);
+        for (unsigned row = 1; row <= 16; row++) {
+            uint16_t bit = heechstjer_row_bit(row);
+            heechstjer_tick_answer a = heechstjer_tick_in(s.block, bit, 0);
+            EXPECT(well_formed(a) && a.clock == row - 1 && a.none_ran == 0 && a.not_ready == 0);
+            EXPECT(a.unknown == (row > n ? bit : 0) && heechstjer_noted(a) == (row > n));
+            EXPECT(row > n ? a.runner == HEECHSTJER_RUNNER_IDLE : a.runner_row == row);
+        }
+    }
+}
+
+static void note_13_where_no_job_ran(void)
 {
     station s = planned(table_a, sizeof table_a);
-    EXPECT(ticks(&s, 0, DONE, "refused 13"));
-    EXPECT(ticks(&s, 0, 0, "0 I -"));
-    EXPECT(ticks(&s, 0, DONE, "refused 13"));
-    EXPECT(ticks(&s, 0, SOFT, "1 S -"));
-    EXPECT(ticks(&s, 0, DONE | SOFT, "refused 13"));
-    EXPECT(ticks(&s, 1, 0, "2 L1 -"));
-    EXPECT(ticks(&s, 0x8000, 0, "refused 12 row 16")); /* refused ticks and offers in between don't count */
+    EXPECT(ticks(&s, 0, DONE, "0 I - note 13"));
+    EXPECT(ticks(&s, 0, DONE | SOFT, "1 S - note 13"));
+    EXPECT(ticks(&s, 1, DONE, "2 L1 - note 13"));
+    EXPECT(ticks(&s, 0, 4, "refused 20")); /* refused ticks and offers in between don't count */
     EXPECT(turns_down(&s, 0, 0, 15));
     EXPECT(takes(&s, 1, 9, 0));
     EXPECT(ticks(&s, 0, DONE, "3 F0 H1 done"));
+    EXPECT(ticks(&s, 0, DONE, "4 I F0 done"));
+    EXPECT(ticks(&s, 0, DONE, "5 I - note 13"));
 }
 
-static void refusal_14_until_t_ticks_have_passed(void)
+static void note_14_until_t_ticks_have_passed(void)
 {
     station s = planned(table_a, sizeof table_a);
     EXPECT(ticks(&s, 3, 0, "0 L1 -"));
-    EXPECT(ticks(&s, 0, DONE, "1 L2 H1 done"));
+    EXPECT(ticks(&s, 1, DONE, "1 L2 H1 done note 14 0001")); /* closed, but not rested */
     EXPECT(ticks(&s, 0, DONE, "2 I H2 done"));
     let_pass(&s, 4);
-    EXPECT(ticks(&s, 3, 0, "refused 14 row 1"));
-    EXPECT(ticks(&s, 2, 0, "refused 14 row 2"));
-    EXPECT(ticks(&s, 0, 0, "7 I -"));
-    EXPECT(ticks(&s, 3, 0, "refused 14 row 2"));
-    EXPECT(ticks(&s, 1, 0, "8 L1 -"));
-    let_pass(&s, 3);
+    EXPECT(ticks(&s, 3, 0, "7 I - note 14 0003"));
+    EXPECT(ticks(&s, 3, 0, "8 L1 - note 14 0002")); /* row 1 is released all the same */
+    let_pass(&s, 2);
+    EXPECT(ticks(&s, 2, 0, "11 I - note 14 0002"));
     EXPECT(ticks(&s, 2, 0, "12 L2 -"));
+}
+
+/* A release at 3 that is noted between those at 0 and 8: promotion is counted from these two. */
+static void a_noted_release_did_not_happen(void)
+{
+    station s = planned(table_a, sizeof table_a);
+    EXPECT(ticks(&s, 1, SOFT, "0 S -") && ticks(&s, 0, SOFT, "1 S -") && ticks(&s, 0, SOFT, "2 S -"));
+    EXPECT(ticks(&s, 1, SOFT, "3 S - note 14 0001"));
+    EXPECT(ticks(&s, 0, SOFT, "4 U1 -") && ticks(&s, 0, SOFT, "5 U1 -") && ticks(&s, 0, SOFT, "6 S H1 spent"));
+    EXPECT(ticks(&s, 1, SOFT, "7 S - note 14 0001"));
+    EXPECT(ticks(&s, 1, SOFT, "8 S -") && ticks(&s, 0, SOFT, "9 S -") && ticks(&s, 0, SOFT, "10 S -"));
+    EXPECT(ticks(&s, 0, SOFT, "11 S -") && ticks(&s, 0, SOFT, "12 U1 -"));
+}
+
+/* Row 1 is marked as rested while its job is open (docs/block.md), as no planning leads to: it waits for the closing, and
+ * the call that closes it, as spent or as done, may release it. */
+static void note_14_until_this_call_closes(void)
+{
+    enum { RESTED_AT = 14 };
+    station spent = at_clock_2(), done = planned(table_a, sizeof table_a);
+    spent.block[RESTED_AT] |= 1;
+    EXPECT(ticks(&spent, 1, 0, "2 U1 - note 14 0001"));
+    EXPECT(ticks(&spent, 1, 0, "3 L1 H1 spent"));
+    EXPECT(ticks(&done, 1, 0, "0 L1 -"));
+    done.block[RESTED_AT] |= 1;
+    EXPECT(ticks(&done, 1, DONE, "1 L1 H1 done"));
+}
+
+static void all_notes_in_one_tick(void)
+{
+    station s = at_clock_2(); /* soft work ran last, row 1 is not rested */
+    EXPECT(ticks(&s, 0xffff, DONE | SOFT, "2 S - note 12 fffc note 13 note 14 0003"));
+    EXPECT(ticks(&s, 0x8001, DONE, "3 L1 - note 12 8000 note 13 note 14 0001"));
+    EXPECT(ticks(&s, 0x4002, DONE, "4 L2 H1 done note 12 4000 note 14 0002"));
+    station t = planned(table_a, sizeof table_a);
+    EXPECT(ticks(&t, 1, SOFT, "0 S -"));
+    EXPECT(ticks(&t, 7, DONE, "1 L1 - note 12 0004 note 13 note 14 0001")); /* row 2 is released */
+    EXPECT(ticks(&t, 0, DONE, "2 L2 H1 done"));
 }
 
 static void refusal_20_for_every_other_flag(void)
@@ -716,14 +793,15 @@ static void refusal_20_for_every_other_flag(void)
     EXPECT(ticks(&s, 0, 0, "0 I -"));
 }
 
-/* The order 20, 11, 12, 13, 14: that of 20 and 11 is tried with wrong lengths and flipped bits above. */
-static void ticks_are_checked_in_order(void)
+/* 20 and 11, whose order is tried with wrong lengths and flipped bits above, also where much would be noted. */
+static void a_refused_tick_notes_nothing(void)
 {
-    station s = at_clock_2(); /* soft work ran last, row 1 is not rested */
-    EXPECT(ticks(&s, 0x8001, DONE | 4, "refused 20"));
-    EXPECT(ticks(&s, 0x8001, DONE, "refused 12 row 16"));
-    EXPECT(ticks(&s, 0x0001, DONE, "refused 13"));
-    EXPECT(ticks(&s, 0x0001, 0, "refused 14 row 1"));
+    station s = at_clock_2();
+    EXPECT(ticks(&s, 0xffff, DONE | 4, "refused 20"));
+    s.block[LAST_BYTE] = 1;
+    EXPECT(ticks(&s, 0xffff, DONE, "refused 11"));
+    s.block[LAST_BYTE] = 0;
+    EXPECT(ticks(&s, 0, 0, "2 L1 -"));
 }
 
 static void a_refused_call_was_not_made(void)
@@ -731,7 +809,7 @@ static void a_refused_call_was_not_made(void)
     station s = planned(table_a, sizeof table_a), quiet = planned(table_a, sizeof table_a);
     for (unsigned t = 0; t < 48; t++) {
         unsigned due = (t % 8 == 0) + 2u * (t % 12 == 0);
-        heechstjer_tick(s.block, BLOCK, 0xfff0, 0);
+        heechstjer_tick(s.block, BLOCK, 0xffff, 0x81);
         heechstjer_tick(s.block, BLOCK, 0, 0x80);
         heechstjer_tick(s.block, BLOCK - 1, 0, 0);
         heechstjer_offer(s.block, BLOCK, 9, 8);
@@ -739,9 +817,35 @@ static void a_refused_call_was_not_made(void)
         EXPECT(same_block(&s, &quiet));
         heechstjer_tick_answer a = heechstjer_tick_in(s.block, (uint16_t)due, 0);
         heechstjer_tick_answer b = heechstjer_tick_in(quiet.block, (uint16_t)due, 0);
-        EXPECT(a.refusal == 0 && a.clock == t && b.clock == t && a.runner == b.runner && a.runner_row == b.runner_row);
-        EXPECT(a.band == b.band && a.closed == b.closed && a.closed_row == b.closed_row && a.closing == b.closing);
+        EXPECT(a.refusal == 0 && a.clock == t && same_tick(a, b) && !heechstjer_noted(a) && !heechstjer_noted(b));
     }
+}
+
+static uint32_t seed;
+
+static unsigned any_below(unsigned bound)
+{
+    seed = seed * 1664525u + 1013904223u;
+    return (seed >> 8) % bound;
+}
+
+/* Whatever is set, the answer but for the notes and the block are those of the call without what was noted. */
+static void what_is_noted_counts_as_clear(void)
+{
+    station noisy = planned(table_a, sizeof table_a), clean = noisy;
+    unsigned all_three = 0;
+    seed = 2;
+    for (unsigned t = 0; t < 5000; t++) {
+        unsigned released = any_below(0x10000) & any_below(0x10000), flags = any_below(4);
+        heechstjer_tick_answer a = heechstjer_tick_in(noisy.block, (uint16_t)released, (uint8_t)flags);
+        unsigned noted = (unsigned)a.unknown | a.not_ready, left = a.none_ran != 0 ? flags & SOFT : flags;
+        heechstjer_tick_answer b = heechstjer_tick_in(clean.block, (uint16_t)(released & ~noted), (uint8_t)left);
+        EXPECT(well_formed(a) && a.clock == t && (noted & ~released) == 0 && a.unknown == (released & 0xfffc));
+        EXPECT((a.none_ran == 0 || (flags & DONE) != 0) && !heechstjer_noted(b));
+        EXPECT(same_tick(a, b) && same_block(&noisy, &clean));
+        all_three += a.unknown != 0 && a.none_ran != 0 && a.not_ready != 0;
+    }
+    EXPECT(all_three > 100 && guards_stand(&noisy));
 }
 
 static void the_five_choices_in_order(void)
@@ -905,9 +1009,9 @@ static void the_table_comes_back(void)
     EXPECT(ticks(&s, 0, SOFT, "1 S -"));
     EXPECT(takes(&s, 2, 4, 0));
     EXPECT(ticks(&s, 0, 0, "2 F0 -"));
-    EXPECT(ticks(&s, 1, 0, "refused 14 row 1"));
+    EXPECT(ticks(&s, 1, 0, "3 F0 - note 14 0001"));
     EXPECT(gives_back(&s, table_a, sizeof table_a));
-    EXPECT(ticks(&s, 0, 0, "3 F0 -")); /* as if nobody had asked */
+    EXPECT(ticks(&s, 0, 0, "4 U1 F0 spent")); /* as if nobody had asked */
 }
 
 /* What the header asks where an interrupt ticks: the bytes are copied, and the copy is read meanwhile. */
@@ -1021,7 +1125,7 @@ static void a_copy_is_the_same_state(void)
     for (int i = 0; i < 30; i++) {
         heechstjer_tick_answer a = heechstjer_tick_in(s.block, 0, SOFT);
         heechstjer_tick_answer b = heechstjer_tick_in(elsewhere + 1, 0, SOFT);
-        EXPECT(a.clock == b.clock && a.runner == b.runner && a.ticket == b.ticket && a.closing == b.closing);
+        EXPECT(same_tick(a, b) && !heechstjer_noted(a) && !heechstjer_noted(b));
         EXPECT(memcmp(elsewhere + 1, s.block, BLOCK) == 0);
     }
 }
@@ -1034,31 +1138,23 @@ static void two_blocks_know_nothing_of_each_other(void)
     EXPECT(ticks(&b, 0, 0, "0 F0 -"));
     EXPECT(ticks(&a, 0, SOFT, "1 S -"));
     EXPECT(ticks(&b, 0, DONE, "1 I F0 done"));
-    EXPECT(ticks(&a, 0, DONE, "refused 13"));
     EXPECT(takes(&a, 2, 4, 0));
+    EXPECT(ticks(&a, 0, DONE, "2 F0 - note 13"));
     EXPECT(ticks(&b, 0, 0, "2 I -"));
-    EXPECT(ticks(&a, 0, 0, "2 F0 -"));
+    EXPECT(ticks(&a, 0, 0, "3 F0 -"));
 }
 
 /* ---- The promises, counted from the answers ---- */
 
-static uint32_t seed;
-
-static unsigned any_below(unsigned bound)
-{
-    seed = seed * 1664525u + 1013904223u;
-    return (seed >> 8) % bound;
-}
-
-/* Random calls on table A, whose rows have these D - M. Every released row is named C times within so many ticks or
- * told done, and never more; every accepted upload as often as its budget within its deadline; the clock counts
- * accepted ticks, tickets count acceptances; done is said only when told. */
+/* Random calls on table A, whose rows have these D - M. Every row whose bit was set and not noted is named C times within
+ * so many ticks or told done, and never more; every accepted upload as often as its budget within its deadline; the
+ * clock counts accepted ticks, those with notes too, tickets count acceptances; done is said only when told. */
 static void all_are_in_time(station s, const unsigned in[2])
 {
     static const unsigned c[2] = {2, 5};
     enum { CALLS = 20000, UPLOADS = 32 };
     struct { bool live; unsigned due, left; } job[2] = {{false, 0, 0}, {false, 0, 0}}, upload[UPLOADS];
-    unsigned now = 0, accepted = 0, offers_refused = 0, ticks_refused = 0;
+    unsigned now = 0, accepted = 0, offers_refused = 0, ticks_refused = 0, ticks_noted = 0;
     memset(upload, 0, sizeof upload);
     seed = 1;
     for (int call = 0; call < CALLS; call++) {
@@ -1076,27 +1172,28 @@ static void all_are_in_time(station s, const unsigned in[2])
             }
             continue;
         }
-        unsigned released = any_below(3) == 0 ? any_below(4) : 0, flags = any_below(4);
+        unsigned released = any_below(3) == 0 ? any_below(8) : 0, flags = any_below(16) == 0 ? 4 : any_below(4);
         station before = s;
         heechstjer_tick_answer a = heechstjer_tick_in(s.block, (uint16_t)released, (uint8_t)flags);
         EXPECT(well_formed(a));
         if (a.refusal != 0) {
-            EXPECT((a.refusal == 13 || a.refusal == 14) && same_block(&s, &before));
+            EXPECT(a.refusal == 20 && same_block(&s, &before));
             ticks_refused++;
             continue;
         }
-        EXPECT(a.clock == now);
-        EXPECT((a.closing == HEECHSTJER_CLOSING_DONE) == ((flags & DONE) != 0));
+        ticks_noted += heechstjer_noted(a);
+        bool told = (flags & DONE) != 0 && a.none_ran == 0;
+        EXPECT(a.clock == now && (a.closing == HEECHSTJER_CLOSING_DONE) == told);
         if (a.closed == HEECHSTJER_CLOSED_HARD) {
-            EXPECT(job[a.closed_row - 1].live && (flags & DONE || job[a.closed_row - 1].left == 0));
+            EXPECT(job[a.closed_row - 1].live && (told || job[a.closed_row - 1].left == 0));
             job[a.closed_row - 1].live = false;
         } else if (a.closed == HEECHSTJER_CLOSED_FIRM) {
             unsigned i = a.closed_ticket % UPLOADS;
-            EXPECT(upload[i].live && (flags & DONE || upload[i].left == 0));
+            EXPECT(upload[i].live && (told || upload[i].left == 0));
             upload[i].live = false;
         }
         for (int row = 0; row < 2; row++)
-            if (released >> row & 1) {
+            if ((released & ~(unsigned)a.not_ready) >> row & 1) {
                 EXPECT(!job[row].live);
                 job[row].live = true;
                 job[row].left = c[row];
@@ -1115,7 +1212,7 @@ static void all_are_in_time(station s, const unsigned in[2])
         for (int i = 0; i < UPLOADS; i++)
             EXPECT(!upload[i].live || upload[i].left == 0 || now < upload[i].due);
     }
-    EXPECT(accepted > 500 && offers_refused > 500 && ticks_refused > 500 && now > 5000);
+    EXPECT(accepted > 500 && offers_refused > 500 && ticks_refused > 500 && ticks_noted > 5000 && now > 5000);
     EXPECT(guards_stand(&s));
 }
 
@@ -1129,7 +1226,7 @@ static void hard_jobs_and_uploads_are_in_time(void)
 /* ---- The run ---- */
 
 static const struct { const char *name; void (*run)(void); } tests[] = {
-    {"every refusal has the documents' number", refusals_have_their_numbers},
+    {"every refusal and note has the documents' number", refusals_and_notes_have_their_numbers},
     {"the version is that of its three numbers", the_version_is_that_of_its_numbers},
     {"a row's bit is one of 16", a_row_bit_is_one_bit_of_16},
     {"rows written in C are the bytes of a file", rows_in_c_are_the_bytes_of_a_file},
@@ -1149,12 +1246,17 @@ static const struct { const char *name; void (*run)(void); } tests[] = {
     {"NULL is a block of 0 bytes: refusal 11", null_is_a_block_of_0_bytes},
     {"NULL is an output of 0 bytes: refusal 19", null_is_an_output_of_0_bytes},
     {"document 01's listing", the_listing_of_document_01},
-    {"refusal 12: the lowest row above n", refusal_12_names_the_lowest_row_above_n},
-    {"refusal 13: done, and no job ran", refusal_13_where_no_job_ran},
-    {"refusal 14: until T ticks have passed", refusal_14_until_t_ticks_have_passed},
+    {"note 12: the rows above n, and the others are released", note_12_lists_the_rows_above_n},
+    {"note 12: every bit above every n", note_12_for_every_bit_above_n},
+    {"note 13: done, and no job ran", note_13_where_no_job_ran},
+    {"note 14: until T ticks have passed", note_14_until_t_ticks_have_passed},
+    {"note 14: a release that did not happen", a_noted_release_did_not_happen},
+    {"note 14: until this very call closes the job", note_14_until_this_call_closes},
+    {"notes 12, 13 and 14 in one tick", all_notes_in_one_tick},
     {"refusal 20: every other flag", refusal_20_for_every_other_flag},
-    {"the order of a tick's checks", ticks_are_checked_in_order},
+    {"refusals 20 and 11 note nothing", a_refused_tick_notes_nothing},
     {"a refused call is as if not made", a_refused_call_was_not_made},
+    {"what is noted counts as clear", what_is_noted_counts_as_clear},
     {"the five choices, in order", the_five_choices_in_order},
     {"the smallest promoted row runs", the_smallest_promoted_row_runs},
     {"a margin promotes earlier", a_margin_promotes_earlier},
