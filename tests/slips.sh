@@ -56,11 +56,30 @@ slip unpromoted_before_soft calls reference/src/station.rs \
 
 # The tick and the offer.
 slip lower_band_by_row calls reference/src/station.rs 'min_by_key(|&row| self.rows[row - 1].row.rank)' 'min()'
-slip clock_after_the_tick calls reference/src/station.rs 'let clock = next.clock();' 'let clock = next.clock() + 1;'
-slip ready_before_closing calls reference/src/station.rs 'next.refuse_unready_rows' 'self.refuse_unready_rows'
+slip clock_after_the_tick calls reference/src/station.rs 'let clock = self.clock();' 'let clock = self.clock() + 1;'
 slip unrun_left_out calls reference/src/station.rs '+ self.unrun_budgets() {' '{'
 slip future_from_now calls reference/src/station.rs 'let l = self.until_rested(now) as i128;' 'let l = 0;'
 slip ticket_not_rolled_over rollover reference/src/station.rs 'Ok(number % ROLL_OVER)' 'Ok(number)'
+
+# Notes.
+slip noted_bit_released calls reference/src/station.rs ' && !releases_row(notes.not_ready, row) {' ' {'
+slip one_wrong_bit_clears_all calls reference/src/station.rs \
+    '!releases_row(notes.not_ready, row) {' 'notes.unknown + notes.not_ready == 0 {'
+slip noted_tick_stands_still calls reference/src/station.rs \
+    '        self.run(runner);' \
+    '        self.run(runner);
+        self.time -= u128::from(notes != Notes::default());'
+slip ready_before_closing calls reference/src/station.rs \
+    '        let closing = self.close(done && !none_ran);
+        let not_ready = self.unready_rows(releases);' \
+    '        let not_ready = self.unready_rows(releases);
+        let closing = self.close(done && !none_ran);'
+slip above_n_under_14_too calls reference/src/station.rs \
+    'let not_ready = self.unready_rows(releases);' 'let not_ready = unknown + self.unready_rows(releases);'
+slip open_job_is_ready blocks reference/src/station.rs ' || hard.open.is_some()' ''
+slip noted_release_is_owed calls compare/src/library.rs 'released & !self.unknown & !self.not_ready' 'released'
+slip notes_before_their_tick programs reference/src/programs.rs \
+    'answer_line(answer) + &note_lines(answer.notes)' 'note_lines(answer.notes) + &answer_line(answer)'
 
 # Planning and the programs.
 slip floor_for_ceil calls reference/src/table.rs 'w.div_ceil(u128::from(above.t))' '(w / u128::from(above.t))'

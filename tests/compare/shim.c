@@ -1,7 +1,7 @@
 /* The library as a C program sees it, asked over pipes: requests on standard input, answers on standard output.
  *
  *     request   function, bytes of the block, bytes of the other thing lent, two arguments; block; other
- *     answer    eleven fields, whether the bytes around what was lent stand; block and other as the call left them
+ *     answer    thirteen fields, whether the bytes around what was lent stand; block and other as the call left them
  *
  * All but block and other are numbers of 64 bits in the machine's order. Each answer of heechstjer.h is copied by the
  * names of its fields, so that the asker depends on no layout and what is compared has gone through the header; fields
@@ -15,13 +15,14 @@
 #include <unistd.h>
 
 enum { PLAN, TICK, OFFER, TABLE, TICKS };
+enum { FIELDS = 13 };
 
 typedef struct request {
     uint64_t function, block_bytes, other_bytes, first, second;
 } request;
 
 typedef struct answer {
-    uint64_t fields[11];
+    uint64_t fields[FIELDS];
     uint64_t stands;
 } answer;
 
@@ -115,7 +116,7 @@ static bool stands(const lent *thing, size_t bytes)
 
 /* ---- The calls ---- */
 
-static void plan(const request *asked, uint8_t *to, const uint8_t *table, uint64_t fields[11])
+static void plan(const request *asked, uint8_t *to, const uint8_t *table, uint64_t fields[FIELDS])
 {
     heechstjer_plan_answer given = heechstjer_plan(to, asked->block_bytes, table, asked->other_bytes);
     fields[0] = given.refusal;
@@ -124,24 +125,26 @@ static void plan(const request *asked, uint8_t *to, const uint8_t *table, uint64
     fields[3] = given.size;
 }
 
-static void tick(const request *asked, uint8_t *on, uint64_t fields[11])
+static void tick(const request *asked, uint8_t *on, uint64_t fields[FIELDS])
 {
     heechstjer_tick_answer given =
         heechstjer_tick(on, asked->block_bytes, (uint16_t)asked->first, (uint8_t)asked->second);
     fields[0] = given.refusal;
-    fields[1] = given.row;
-    fields[2] = given.clock;
-    fields[3] = given.runner;
-    fields[4] = given.runner_row;
-    fields[5] = given.band;
-    fields[6] = given.ticket;
-    fields[7] = given.closed;
-    fields[8] = given.closed_row;
-    fields[9] = given.closed_ticket;
-    fields[10] = given.closing;
+    fields[1] = given.unknown;
+    fields[2] = given.none_ran;
+    fields[3] = given.not_ready;
+    fields[4] = given.clock;
+    fields[5] = given.runner;
+    fields[6] = given.runner_row;
+    fields[7] = given.band;
+    fields[8] = given.ticket;
+    fields[9] = given.closed;
+    fields[10] = given.closed_row;
+    fields[11] = given.closed_ticket;
+    fields[12] = given.closing;
 }
 
-static void offer(const request *asked, uint8_t *on, uint64_t fields[11])
+static void offer(const request *asked, uint8_t *on, uint64_t fields[FIELDS])
 {
     heechstjer_offer_answer given =
         heechstjer_offer(on, asked->block_bytes, (uint16_t)asked->first, (uint16_t)asked->second);
@@ -149,7 +152,7 @@ static void offer(const request *asked, uint8_t *on, uint64_t fields[11])
     fields[1] = given.ticket;
 }
 
-static void table(const request *asked, const uint8_t *of, uint8_t *to, uint64_t fields[11])
+static void table(const request *asked, const uint8_t *of, uint8_t *to, uint64_t fields[FIELDS])
 {
     heechstjer_table_answer given = heechstjer_table(of, asked->block_bytes, to, asked->other_bytes);
     fields[0] = given.refusal;
@@ -157,12 +160,12 @@ static void table(const request *asked, const uint8_t *of, uint8_t *to, uint64_t
 }
 
 /* Ticks that release nothing, the first at the clock `first`, up to `second` of them: how many were accepted, each
- * with a clock one more than the one before. */
-static void ticks(const request *asked, uint8_t *on, uint64_t fields[11])
+ * with a clock one more than the one before and nothing noted. */
+static void ticks(const request *asked, uint8_t *on, uint64_t fields[FIELDS])
 {
     while (fields[0] < asked->second) {
         heechstjer_tick_answer given = heechstjer_tick(on, asked->block_bytes, 0, 0);
-        if (given.refusal != HEECHSTJER_ACCEPTED || given.clock != asked->first + fields[0])
+        if (given.refusal != HEECHSTJER_ACCEPTED || given.clock != asked->first + fields[0] || heechstjer_noted(given))
             return;
         fields[0]++;
     }

@@ -66,10 +66,10 @@ impl Judge {
 
         let mut after = station.clone();
         let want = expected::tick(after.as_mut(), released, flags);
-        self.counts.call(compare(first, want, block, after).refusal);
+        self.counts.tick(released, compare(first, want, block, after));
         let mut after = station.clone();
         let want = expected::tick(after.as_mut(), 0, 0);
-        self.counts.call(compare(second, want, block, after).refusal);
+        self.counts.tick(0, compare(second, want, block, after));
         let mut after = station.clone();
         let want = expected::offer(after.as_mut(), 1, deadline);
         self.counts.call(compare(offer, want, block, after).refusal);

@@ -4,7 +4,7 @@
 use crate::library::flag;
 use reference::block::BLOCK;
 use reference::random::Random;
-use reference::station::{HardRow, Last, Station};
+use reference::station::{row_bit, HardRow, Station};
 use reference::table::MOST_ROWS;
 
 /// When rows are released.
@@ -52,6 +52,8 @@ pub struct Caller {
     done: u64,
     /// Of a hundred calls, how many ask for something that is refused.
     faults: u64,
+    /// Of a hundred ticks, how many have noise on their lines, which is noted.
+    noise: u64,
     /// The longest deadline offered, most of the time.
     longest: u64,
 }
@@ -66,8 +68,9 @@ impl Caller {
         let soft = one_of([0, 30, 80, 100]);
         let done = one_of([0, 5, 20, 60]);
         let faults = one_of([0, 2, 5, 20]);
+        let noise = one_of([0, 5, 40, 100]);
         let longest = one_of([6, 40, 300, 65535]);
-        Caller { random, releases, offers, soft, done, faults, longest }
+        Caller { random, releases, offers, soft, done, faults, noise, longest }
     }
 
     fn percent(&mut self, of_hundred: u64) -> bool {
@@ -86,12 +89,32 @@ impl Caller {
     }
 
     fn tick(&mut self, station: &Station) -> Call {
-        Call::Tick { released: self.released(station), flags: self.flags(station) }
+        let mut released = self.released(station);
+        let mut flags = self.flags(station);
+        if self.percent(self.noise) {
+            released |= self.wrong_bits(station);
+            if self.random.once_in(2) && !station.ran_job() {
+                flags |= flag::DONE;
+            }
+        }
+        Call::Tick { released, flags }
+    }
+
+    /// Bits of rows that are not rested or not there, few or many, or none. The
+    /// releases that can be stay those of the caller's manner.
+    fn wrong_bits(&mut self, station: &Station) -> u16 {
+        let one_in = [2, 8, 32][self.random.below(3) as usize];
+        let rested = |row: usize| {
+            let hard = station.rows.get(row - 1);
+            hard.is_some_and(|hard| hard.rested(station.time))
+        };
+        let wrong = (1..=MOST_ROWS).filter(|&row| !rested(row) && self.random.once_in(one_in));
+        wrong.map(row_bit).sum()
     }
 
     fn flags(&mut self, station: &Station) -> u8 {
         let mut flags = 0;
-        if ran_job(station) && self.percent(self.done) {
+        if station.ran_job() && self.percent(self.done) {
             flags += flag::DONE;
         }
         if self.percent(self.soft) {
@@ -106,7 +129,7 @@ impl Caller {
         let mut released = 0;
         for index in 0..rested.len() {
             if rested[index] && self.wants(station, &rested, index) {
-                released += bit(index);
+                released += row_bit(index + 1);
             }
         }
         released
@@ -126,17 +149,14 @@ impl Caller {
         }
     }
 
-    /// A tick with one thing too much; mostly refused.
+    /// A tick that is refused, most of the time, whatever is released.
     fn faulty_tick(&mut self, station: &Station) -> Call {
-        let released = self.released(station);
-        let flags = self.flags(station);
-        let any_row = bit(self.random.below(MOST_ROWS as u64) as usize);
-        match self.random.below(5) {
-            0 | 1 => Call::Tick { released: released | any_row, flags },
-            2 => Call::Tick { released, flags: flags | flag::DONE },
-            3 => Call::Tick { released: released | any_row, flags: self.random.below(256) as u8 },
-            _ => Call::WrongLength { bytes: self.wrong_length(), flags },
+        if self.random.once_in(4) {
+            let flags = self.flags(station);
+            return Call::WrongLength { bytes: self.wrong_length(), flags };
         }
+        let released = self.released(station) | self.wrong_bits(station);
+        Call::Tick { released, flags: self.random.below(256) as u8 }
     }
 
     fn wrong_length(&mut self) -> usize {
@@ -197,17 +217,8 @@ impl Caller {
     }
 }
 
-fn bit(index: usize) -> u16 {
-    2_u16.pow(index as u32)
-}
-
 /// Whether an open job is promoted in just this tick.
 fn promoted_now(station: &Station) -> bool {
     let promotion = |hard: &HardRow| hard.open.as_ref().map(|job| job.release + hard.promotion);
     station.rows.iter().any(|hard| promotion(hard) == Some(station.time))
-}
-
-/// Whether the last accepted tick ran a job, so that done may be said.
-fn ran_job(station: &Station) -> bool {
-    matches!(station.last, Last::Hard(_) | Last::Firm)
 }

@@ -1,5 +1,6 @@
 //! What a run tried.
 
+use crate::library::TickAnswer;
 use crate::watch::Seen;
 use reference::station::Station;
 use reference::table::{Row, Table};
@@ -19,12 +20,54 @@ pub struct Margins {
     pub mixed: u64,
 }
 
+/// Ticks with notes.
+#[derive(Clone, Copy, Debug, Default)]
+pub struct Noted {
+    /// By what they noted: 12, 13, 14.
+    pub unknown: u64,
+    pub none_ran: u64,
+    pub not_ready: u64,
+    /// Those that noted all three, and those that released a row.
+    pub all_three: u64,
+    pub released: u64,
+}
+
+impl Noted {
+    fn tick(&mut self, released: u16, answer: TickAnswer) {
+        let noted = [answer.unknown != 0, answer.none_ran != 0, answer.not_ready != 0];
+        let [unknown, none_ran, not_ready] = noted.map(u64::from);
+        self.unknown += unknown;
+        self.none_ran += none_ran;
+        self.not_ready += not_ready;
+        self.all_three += unknown * none_ran * not_ready;
+        let any = noted.contains(&true);
+        self.released += u64::from(any && answer.releases(released) != 0);
+    }
+
+    /// How often what came least was met.
+    pub fn least(&self) -> u64 {
+        let Noted { unknown, none_ran, not_ready, all_three, released } = *self;
+        unknown.min(none_ran).min(not_ready).min(all_three).min(released)
+    }
+}
+
+impl AddAssign for Noted {
+    fn add_assign(&mut self, other: Noted) {
+        self.unknown += other.unknown;
+        self.none_ran += other.none_ran;
+        self.not_ready += other.not_ready;
+        self.all_three += other.all_three;
+        self.released += other.released;
+    }
+}
+
 #[derive(Clone, Copy, Debug, Default)]
 pub struct Counts {
     /// Calls of the library, refused ones among them.
     pub calls: u64,
     /// Calls by the refusal they met; those at 0 were accepted.
     pub refused: [u64; REFUSALS],
+    pub noted: Noted,
     /// Deadlines that passed while somebody counted.
     pub seen: Seen,
     /// Ticks and acceptances whose number rolled over to 0.
@@ -39,18 +82,25 @@ pub struct Counts {
     pub blocks: u64,
     pub images: u64,
     pub images_with_margin: u64,
-    /// Runs of `plan` and `run`.
+    /// Runs of `plan` and `run`, and lines with a note that `run` printed.
     pub programs: u64,
+    pub note_lines: u64,
 }
 
 impl Counts {
-    /// Notes a call with the refusal it met, 0 for none.
+    /// Counts a call with the refusal it met, 0 for none.
     pub fn call(&mut self, refusal: u64) {
         self.calls += 1;
         self.refused[refusal as usize] += 1;
     }
 
-    /// Notes a table that was planned and accepted.
+    /// Counts a tick with this release set.
+    pub fn tick(&mut self, released: u16, answer: TickAnswer) {
+        self.call(answer.refusal);
+        self.noted.tick(released, answer);
+    }
+
+    /// Counts a table that was planned and accepted.
     pub fn planned(&mut self, table: &Table) {
         for (row, bound) in table.rows.iter().zip(&table.bounds) {
             self.margins.rows += u64::from(has_margin(row));
@@ -60,7 +110,7 @@ impl Counts {
         self.margins.mixed += u64::from(mixed);
     }
 
-    /// Notes a block that was judged: the station that it holds, none if it is no
+    /// Counts a block that was judged: the station that it holds, none if it is no
     /// image.
     pub fn judged(&mut self, station: Option<&Station>) {
         self.blocks += 1;
@@ -86,6 +136,7 @@ impl AddAssign for Counts {
         for (sum, more) in self.refused.iter_mut().zip(other.refused) {
             *sum += more;
         }
+        self.noted += other.noted;
         self.seen += other.seen;
         self.margins.rows += other.margins.rows;
         self.margins.largest += other.margins.largest;
@@ -97,6 +148,7 @@ impl AddAssign for Counts {
         self.images += other.images;
         self.images_with_margin += other.images_with_margin;
         self.programs += other.programs;
+        self.note_lines += other.note_lines;
     }
 }
 
@@ -107,6 +159,13 @@ impl fmt::Display for Counts {
             if *times > 0 {
                 write!(f, ", {times} refused {number}")?;
             }
+        }
+        if self.noted.unknown + self.noted.none_ran + self.noted.not_ready > 0 {
+            let Noted { unknown, none_ran, not_ready, all_three, released } = self.noted;
+            write!(
+                f,
+                "; ticks that noted 12: {unknown}, 13: {none_ran}, 14: {not_ready}, all three: {all_three}; {released} with notes released a row"
+            )?;
         }
         if self.seen.hard + self.seen.uploads > 0 {
             write!(
@@ -141,7 +200,7 @@ impl fmt::Display for Counts {
             )?;
         }
         if self.programs > 0 {
-            write!(f, "; {} runs of the programs", self.programs)?;
+            write!(f, "; {} runs of the programs, {} notes", self.programs, self.note_lines)?;
         }
         Ok(())
     }

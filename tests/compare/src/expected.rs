@@ -2,7 +2,7 @@
 
 use crate::library::{flag, kind, OfferAnswer, PlanAnswer, TableAnswer, TickAnswer};
 use reference::block::BLOCK;
-use reference::station::{Answer, Band, Closing, Job, Refusal, Runner, Station};
+use reference::station::{Answer, Band, Closing, Job, Runner, Station};
 use reference::table::{read_table, write_table, Table};
 
 /// Planning: 11 for the length only, then the file.
@@ -24,8 +24,8 @@ pub fn plan(table: &[u8], block_bytes: usize) -> (PlanAnswer, Option<Table>) {
     }
 }
 
-/// A tick: 20, 11, then the station's own checks. No station stands for a block
-/// that is no image.
+/// A tick: 20, 11, then the station's step. No station stands for a block that is
+/// no image.
 pub fn tick(station: Option<&mut Station>, released: u16, flags: u8) -> TickAnswer {
     let refused = |number: u8| TickAnswer { refusal: u64::from(number), ..Default::default() };
     if flags > flag::DONE + flag::SOFT {
@@ -36,16 +36,17 @@ pub fn tick(station: Option<&mut Station>, released: u16, flags: u8) -> TickAnsw
     };
     let done = flags % 2 == 1;
     let soft = flags / 2 == 1;
-    match station.tick(released, done, soft) {
-        Ok(answer) => accepted(answer),
-        Err(Refusal { number, row }) => {
-            TickAnswer { row: row.unwrap_or(0) as u64, ..refused(number) }
-        }
-    }
+    stepped(station.tick(released, done, soft))
 }
 
-fn accepted(answer: Answer) -> TickAnswer {
-    let mut fields = TickAnswer { clock: answer.clock as u64, ..Default::default() };
+fn stepped(answer: Answer) -> TickAnswer {
+    let mut fields = TickAnswer {
+        unknown: answer.notes.unknown,
+        not_ready: answer.notes.not_ready,
+        none_ran: u64::from(answer.notes.none_ran),
+        clock: answer.clock as u64,
+        ..Default::default()
+    };
     match answer.runner {
         Runner::Hard(row, band) => {
             fields.runner = kind::HARD;
@@ -88,7 +89,7 @@ pub fn offer(station: Option<&mut Station>, budget: u16, deadline: u16) -> Offer
     };
     match station.offer(budget, deadline) {
         Ok(ticket) => OfferAnswer { refusal: 0, ticket: ticket as u64 },
-        Err(Refusal { number, .. }) => OfferAnswer { refusal: u64::from(number), ticket: 0 },
+        Err(number) => OfferAnswer { refusal: u64::from(number), ticket: 0 },
     }
 }
 

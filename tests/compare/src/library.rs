@@ -19,7 +19,11 @@ pub struct PlanAnswer {
 #[derive(Clone, Copy, Debug, Default, PartialEq, Eq)]
 pub struct TickAnswer {
     pub refusal: u64,
-    pub row: u64,
+    /// Note 12 and note 14: release bits.
+    pub unknown: u16,
+    pub not_ready: u16,
+    /// Note 13: 1 or 0.
+    pub none_ran: u64,
     pub clock: u64,
     pub runner: u64,
     pub runner_row: u64,
@@ -29,6 +33,17 @@ pub struct TickAnswer {
     pub closed_row: u64,
     pub closed_ticket: u64,
     pub closing: u64,
+}
+
+impl TickAnswer {
+    /// The rows of the call's set that were released, read off the answer: the bits
+    /// that were set and not noted, where the tick was accepted.
+    pub fn releases(&self, released: u16) -> u16 {
+        if self.refusal != 0 {
+            return 0;
+        }
+        released & !self.unknown & !self.not_ready
+    }
 }
 
 /// The answer of an offer.
@@ -73,7 +88,7 @@ mod function {
 }
 
 /// The fields at the front of an answer.
-const FIELDS: usize = 11;
+const FIELDS: usize = 13;
 
 /// The shim of a thread.
 struct Shim {
@@ -194,10 +209,12 @@ pub fn ask_tick(block: &[u8], released: u16, flags: u8) -> Asked<TickAnswer> {
         arguments,
         block,
         &[],
-        |[refusal, row, clock, runner, runner_row, band, ticket, closed, closed_row, closed_ticket, closing]| {
+        |[refusal, unknown, none_ran, not_ready, clock, runner, runner_row, band, ticket, closed, closed_row, closed_ticket, closing]| {
             TickAnswer {
                 refusal,
-                row,
+                unknown: set(unknown),
+                none_ran,
+                not_ready: set(not_ready),
                 clock,
                 runner,
                 runner_row,
@@ -210,6 +227,11 @@ pub fn ask_tick(block: &[u8], released: u16, flags: u8) -> Asked<TickAnswer> {
             }
         },
     )
+}
+
+/// A field of 16 bits.
+fn set(field: u64) -> u16 {
+    field.try_into().expect("a set of 16 rows")
 }
 
 pub fn ask_offer(block: &[u8], budget: u16, deadline: u16) -> Asked<OfferAnswer> {
@@ -243,7 +265,8 @@ pub fn offer(block: &mut [u8], budget: u16, deadline: u16) -> OfferAnswer {
 }
 
 /// Ticks that release nothing and have no flags, the first at this clock: how many
-/// of so many were accepted in turn, each with a clock one more than the one before.
+/// of so many were accepted in turn, each with a clock one more than the one before
+/// and nothing noted.
 pub fn ticks(block: &mut [u8], clock: u64, how_many: u64) -> u64 {
     let arguments = [clock, how_many];
     Asked::ask(function::TICKS, arguments, block, &[], |[accepted, ..]| accepted).answer(block)

@@ -32,10 +32,11 @@ static SUITES: [Suite; 4] = [
         case: calls::case,
         cases: 980,
         enough: |tried| {
-            let every_refusal = (11..=20).all(|number| tried.met(number));
+            let every_refusal = [11].into_iter().chain(15..=20).all(|number| tried.met(number));
             let margins = tried.margins.rows.min(tried.margins.largest).min(tried.margins.mixed);
             tried.calls >= 1_000_000
                 && every_refusal
+                && tried.noted.least() >= 10_000
                 && margins >= 100
                 && tried.seen.hard >= 10_000
                 && tried.seen.less_margin_to_the_tick >= 10_000
@@ -49,6 +50,7 @@ static SUITES: [Suite; 4] = [
         enough: |tried| {
             let rolled = tried.clocks_rolled.min(tried.tickets_rolled).min(tried.slept);
             rolled >= 500
+                && tried.noted.least() >= 10_000
                 && tried.seen.hard >= 10_000
                 && tried.seen.less_margin_to_the_tick >= 1_000
                 && tried.seen.uploads >= 10_000
@@ -63,6 +65,7 @@ static SUITES: [Suite; 4] = [
                 && tried.images >= 100_000
                 && tried.images < tried.blocks / 2
                 && tried.images_with_margin >= 10_000
+                && tried.noted.least() >= 10_000
                 && tried.met(10)
                 && tried.met(22)
         },
@@ -74,6 +77,7 @@ static SUITES: [Suite; 4] = [
         enough: |tried| {
             let mut table_refusals = (1..=10).chain(21..=22);
             tried.programs >= 5_000
+                && tried.note_lines >= 10_000
                 && table_refusals.all(|number| tried.met(number))
                 && tried.margins.largest.min(tried.margins.mixed) >= 100
         },

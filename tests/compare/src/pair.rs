@@ -6,7 +6,7 @@ use crate::library::{Asked, TableAnswer};
 use crate::watch::Watch;
 use crate::{expected, library};
 use reference::block::{encode, BLOCK};
-use reference::station::{releases_row, HardRow, Station, ROLL_OVER};
+use reference::station::{row_bit, HardRow, Station, ROLL_OVER};
 use reference::table::{file_of_rows, LONGEST_TABLE};
 use std::fmt::Debug;
 
@@ -125,13 +125,13 @@ impl Pair {
 
     /// A tick on both; whether it was accepted.
     fn tick(&mut self, released: u16, flags: u8) -> bool {
-        let slept = self.slept(released);
+        let slept = self.slept();
         let answer = library::tick(&mut self.block, released, flags);
         let want = expected::tick(Some(&mut self.station), released, flags);
         assert_eq!(answer, want, "tick, released {released:#06x}, flags {flags}");
-        self.counts.call(answer.refusal);
+        self.counts.tick(released, answer);
+        self.counts.slept += u64::from((slept & answer.releases(released)).count_ones());
         if answer.refusal == 0 {
-            self.counts.slept += slept;
             self.counts.clocks_rolled += u64::from(answer.clock == 0 && self.station.time > 1);
         }
         if let Some(watch) = &mut self.watch {
@@ -141,16 +141,15 @@ impl Pair {
         answer.refusal == 0
     }
 
-    /// How many of the released rows have slept for a round of the clock and less
-    /// than T ticks more.
-    fn slept(&self, released: u16) -> u64 {
+    /// The rows that have slept for a round of the clock and less than T ticks more.
+    fn slept(&self) -> u16 {
         let now = self.station.time;
         let slept = |hard: &HardRow| {
             let age = hard.last_release.map_or(0, |release| now - release);
             age >= ROLL_OVER && age % ROLL_OVER < u128::from(hard.row.t)
         };
-        let rows = self.station.rows.iter().enumerate();
-        rows.filter(|(index, hard)| releases_row(released, index + 1) && slept(hard)).count() as u64
+        let rows = self.station.rows.iter().enumerate().filter(|(_, hard)| slept(hard));
+        rows.map(|(index, _)| row_bit(index + 1)).sum()
     }
 
     /// An offer on both; whether it was accepted.

@@ -37,6 +37,7 @@ pub fn case(seed: u64) -> Counts {
     let want = programs::run(&bytes(&table), &bytes(&events));
     assert_eq!(run(seed, &table, &events), want, "run on {table:02x?}, {events:02x?}");
     counts.programs += 2;
+    counts.note_lines += want.lines().filter(|line| line.starts_with("note ")).count() as u64;
     counts
 }
 

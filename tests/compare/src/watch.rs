@@ -1,5 +1,6 @@
 //! Demand 3, watched from outside: deadlines and ticks run, counted from the
-//! calls made and the answers given, with no look at any state.
+//! calls made and the answers given, with no look at any state. A release is a
+//! bit that was set and not noted; ticks with notes count as time.
 
 use crate::library::{flag, kind, OfferAnswer, TickAnswer};
 use reference::station::releases_row;
@@ -118,9 +119,13 @@ impl Watch {
         if answer.refusal != 0 {
             return;
         }
-        self.closing(flags, answer);
+        let said_done = flags & flag::DONE != 0;
+        let noted = answer.unknown | answer.not_ready;
+        assert!(noted & !released == 0, "noted a bit that nobody set");
+        assert!(answer.none_ran == 0 || said_done, "noted done, and nobody said so");
+        self.closing(said_done && answer.none_ran == 0, answer);
         for (index, row) in self.rows.iter().enumerate() {
-            if releases_row(released, index + 1) {
+            if releases_row(answer.releases(released), index + 1) {
                 let due = row.d - row.m;
                 self.hard[index] = Some(Owed::new(u64::from(row.c), u64::from(due)));
             }
@@ -139,9 +144,9 @@ impl Watch {
     }
 
     /// The job that closed, if any, was released or accepted in an earlier call.
-    fn closing(&mut self, flags: u8, answer: TickAnswer) {
+    fn closing(&mut self, told_done: bool, answer: TickAnswer) {
         let done = answer.closing == kind::DONE;
-        assert!(!done || flags & flag::DONE != 0, "reported done, and nobody said so");
+        assert!(!done || told_done, "reported done, and nobody said so");
         let owed = match answer.closed {
             kind::HARD => self.hard[answer.closed_row as usize - 1].as_mut(),
             kind::FIRM => self.upload(answer.closed_ticket),
@@ -205,6 +210,18 @@ mod tests {
 
     fn closes_hard(answer: TickAnswer, closing: u64) -> TickAnswer {
         TickAnswer { closed: kind::HARD, closed_row: 1, closing, ..answer }
+    }
+
+    fn unknown(bits: u16, answer: TickAnswer) -> TickAnswer {
+        TickAnswer { unknown: bits, ..answer }
+    }
+
+    fn not_ready(bits: u16, answer: TickAnswer) -> TickAnswer {
+        TickAnswer { not_ready: bits, ..answer }
+    }
+
+    fn none_ran(answer: TickAnswer) -> TickAnswer {
+        TickAnswer { none_ran: 1, ..answer }
     }
 
     fn took(ticket: u64) -> OfferAnswer {
@@ -288,7 +305,72 @@ mod tests {
     }
 
     #[test]
-    #[should_panic(expected = "nobody said so")]
+    fn a_noted_release_is_owed_nothing() {
+        let mut watch = watch();
+        watch.tick(1, 0, not_ready(1, idle()));
+        watch.tick(0, 0, idle());
+        watch.tick(0, 0, idle());
+        assert_eq!(watch.seen.hard, 0);
+    }
+
+    #[test]
+    #[should_panic(expected = "late")]
+    fn a_noted_release_puts_no_deadline_off() {
+        let mut watch = watch();
+        watch.tick(1, 0, hard());
+        watch.tick(1, 0, not_ready(1, idle()));
+        watch.tick(0, 0, idle());
+    }
+
+    #[test]
+    #[should_panic(expected = "runs more than it may")]
+    fn a_noted_release_is_no_leave_to_run_again() {
+        let mut watch = watch();
+        watch.tick(1, 0, hard());
+        watch.tick(0, 0, hard());
+        watch.tick(1, 0, not_ready(1, hard()));
+    }
+
+    #[test]
+    fn a_release_beside_a_noted_one_is_owed() {
+        let mut watch = watch();
+        watch.tick(0x8001, 0, unknown(0x8000, hard()));
+        watch.tick(0, 0, hard());
+        watch.tick(0, 0, closes_hard(idle(), kind::SPENT));
+        assert_eq!(watch.seen.hard, 1);
+    }
+
+    #[test]
+    #[should_panic(expected = "late")]
+    fn ticks_with_notes_are_time() {
+        let mut watch = watch();
+        watch.tick(1, 0, hard());
+        watch.tick(0x8000, 0, unknown(0x8000, idle()));
+        watch.tick(0, 1, none_ran(idle()));
+    }
+
+    #[test]
+    #[should_panic(expected = "noted a bit that nobody set")]
+    fn a_note_of_a_clear_bit() {
+        watch().tick(0x8000, 0, unknown(0xc000, idle()));
+    }
+
+    #[test]
+    #[should_panic(expected = "noted done, and nobody said so")]
+    fn a_note_of_a_clear_flag() {
+        watch().tick(0, 2, none_ran(idle()));
+    }
+
+    #[test]
+    #[should_panic(expected = "reported done, and nobody said so")]
+    fn a_job_done_by_a_flag_that_was_noted() {
+        let mut watch = watch();
+        watch.tick(1, 0, hard());
+        watch.tick(0, 1, none_ran(closes_hard(idle(), kind::DONE)));
+    }
+
+    #[test]
+    #[should_panic(expected = "reported done, and nobody said so")]
     fn a_job_done_without_the_flag() {
         let mut watch = watch();
         watch.tick(1, 0, hard());
