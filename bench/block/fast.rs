@@ -1,9 +1,9 @@
 //! A plain Rust dispatcher written for speed: document 01's tick on arrays of sixteen, sets of rows as numbers, changed in
-//! place. A tick branches only where it is refused, and has one loop over the rows, which rustc turns into vectors.
+//! place. A tick branches only where it is refused or notes a bit, and has one loop over the rows, which rustc turns into vectors.
 //!
 //! A job has a place: a row's is its number from 0, an upload's 16 and its ticket modulo 8; NOBODY stands for no job.
 
-use crate::station::{refused, Station, TickAnswer, DONE, FIRST_CLOCK, SOFT};
+use crate::station::{unknown_flags, Station, TickAnswer, DONE, FIRST_CLOCK, SOFT};
 use crate::work::{Offer, Table};
 
 const ROWS: usize = 16;
@@ -71,32 +71,34 @@ pub struct Dispatcher {
 }
 
 impl Dispatcher {
-    /// The checks; then close, release, choose, run.
+    /// Close, release what may be released, choose, run; the rest of the set is noted.
     #[inline(always)]
     fn step(&mut self, set: u16, flags: u8) -> TickAnswer {
-        let done = flags & DONE != 0;
-        let closed = self.closes(done);
-        let none_ran = done & (closed == NOBODY);
-        let unready = set & !(self.rested & !(self.open & !self.mark[closed]) as u16);
-        if (flags > DONE | SOFT) | none_ran | (unready != 0) {
-            return refusal(flags, set & !self.known, none_ran, unready);
+        if flags > DONE | SOFT {
+            return unknown_flags();
         }
         let (clock, first) = (self.clock, self.first);
+        let done = flags & DONE != 0;
+        let closed = self.closes(done);
         self.close(closed);
-        let due = self.release(set);
+        let noted = set & !(self.rested & !self.open as u16);
+        let due = self.release(if noted == 0 { set } else { without(set, noted) });
         let choice = self.choose(due, flags);
         let runner = self.run(choice);
         TickAnswer {
             clock,
             ticket: if choice == FIRM { self.first } else { 0 },
             closed_ticket: if is_upload(closed) { first } else { 0 },
+            unknown: noted & !self.known,
+            not_ready: noted & self.known,
+            refusal: 0,
+            none_ran: (done & (closed == NOBODY)) as u8,
             runner: runner.kind,
             runner_row: runner.row,
             band: runner.band,
             closed: CLOSED[closed].0,
             closed_row: CLOSED[closed].1,
-            closing: if done { 1 } else { (closed != NOBODY) as u8 * 2 },
-            ..TickAnswer::default()
+            closing: (closed != NOBODY) as u8 * (2 - done as u8),
         }
     }
 
@@ -153,18 +155,12 @@ impl Dispatcher {
     }
 }
 
+/// Never inlined, so that there is a branch, which is mostly foretold: where no bit is noted the loop over the rows doesn't wait
+/// for what closed.
 #[cold]
-fn refusal(flags: u8, unknown: u16, none_ran: bool, unready: u16) -> TickAnswer {
-    let lowest = |set: u16| set.trailing_zeros() as u8 + 1;
-    if flags > DONE | SOFT {
-        refused(20, 0)
-    } else if unknown != 0 {
-        refused(12, lowest(unknown))
-    } else if none_ran {
-        refused(13, 0)
-    } else {
-        refused(14, lowest(unready))
-    }
+#[inline(never)]
+fn without(set: u16, noted: u16) -> u16 {
+    set & !noted
 }
 
 /// Every bit, or none: with it the loop over the rows has no branch.

@@ -1,5 +1,5 @@
-//! The tick that C calls, on its block of 512 bytes, beside two plain Rust dispatchers: every answer compared, then the three
-//! timed in one process. `block count WORKLOAD` only compares, for callgrind.
+//! The tick that C calls, on its block of 512 bytes, beside two plain Rust dispatchers: every answer compared, first with much
+//! noise, then the three timed in one process. `block count WORKLOAD` only compares, for callgrind.
 
 mod fast;
 mod ours;
@@ -10,7 +10,7 @@ mod work;
 use station::Station;
 use std::hint::black_box;
 use std::time::{Duration, Instant};
-use work::{compared, Work, KINDS};
+use work::{compared, Work, KINDS, NOISY};
 
 const TICKS: usize = 1_000_000;
 const COUNTED_TICKS: usize = 100_000;
@@ -24,6 +24,9 @@ fn main() {
         black_box(compared(kind, COUNTED_TICKS));
         return;
     }
+    let noisy = compared(&NOISY, TICKS);
+    assert!(noisy.noted.iter().all(|&ticks| ticks > 0), "a note is not met");
+    print_work(NOISY.name, &noisy);
     for kind in &KINDS {
         let work = compared(kind, TICKS);
         print_work(kind.name, &work);
@@ -32,11 +35,13 @@ fn main() {
 }
 
 fn print_work(name: &str, work: &Work) {
-    let [upper, lower, firm, soft, idle, refused] =
-        work.ran.map(|ticks| 100.0 * ticks as f64 / TICKS as f64);
+    let percent = |ticks: usize| 100.0 * ticks as f64 / TICKS as f64;
+    let [upper, lower, firm, soft, idle, refused] = work.ran.map(percent);
     println!(
         "{name:5}  {TICKS} answers equal: upper {upper:.1} %, lower {lower:.1}, firm {firm:.1}, soft {soft:.1}, idle {idle:.1}, refused {refused:.1}"
     );
+    let [unknown, none_ran, not_ready, all] = work.noted.map(percent);
+    println!("       noted 12: {unknown:.1} %, 13: {none_ran:.1}, 14: {not_ready:.1}, all three: {all:.1}");
     println!("       {} of {} offers accepted", work.stretches.len() - 1, work.offers);
 }
 

@@ -1,6 +1,6 @@
 //! A plain Rust dispatcher: document 01's tick on rows kept as structs, changed in place, each step a scan of the rows.
 
-use crate::station::{refused, Station, TickAnswer, DONE, FIRST_CLOCK, SOFT};
+use crate::station::{unknown_flags, Station, TickAnswer, DONE, FIRST_CLOCK, SOFT};
 use crate::work::{self, Offer, Table};
 
 #[derive(Clone, Copy, Default, PartialEq)]
@@ -57,14 +57,9 @@ struct Answer {
     clock: u32,
     runner: Runner,
     closing: Closing,
-}
-
-/// Refusals 12 and 14 with the row, counted from 0, and 13.
-#[derive(Clone, Copy)]
-enum Refusal {
-    Unknown(usize),
-    NoneRan,
-    NotReady(usize),
+    unknown: u16,
+    none_ran: bool,
+    not_ready: u16,
 }
 
 #[derive(PartialEq)]
@@ -82,6 +77,11 @@ fn has(set: u16, i: usize) -> bool {
     set >> i & 1 == 1
 }
 
+/// The bits of a set from row n on, counted from 0.
+fn above(set: u16, n: usize) -> u16 {
+    set & (0xffff_u32 << n) as u16
+}
+
 impl Row {
     fn promoted(&self, clock: u32) -> bool {
         self.open && (self.rested || clock.wrapping_sub(self.release) >= self.u as u32)
@@ -90,27 +90,17 @@ impl Row {
 
 impl Dispatcher {
     #[inline(always)]
-    fn step(&mut self, set: u16, done: bool, soft: bool) -> Result<Answer, Refusal> {
-        for i in self.n..16 {
-            if has(set, i) {
-                return Err(Refusal::Unknown(i));
-            }
-        }
-        if done && self.last == Last::Nobody {
-            return Err(Refusal::NoneRan);
-        }
+    fn step(&mut self, set: u16, done: bool, soft: bool) -> Answer {
+        let none_ran = done && self.last == Last::Nobody;
         let closing = self.closing(done);
-        for (i, row) in self.rows[..self.n].iter().enumerate() {
-            if has(set, i) && (!row.rested || row.open && !closes(closing, i)) {
-                return Err(Refusal::NotReady(i));
-            }
-        }
         self.close(closing);
-        self.release(set);
+        let unknown = above(set, self.n);
+        let not_ready = self.not_ready(set);
+        self.release(set & !not_ready);
         let runner = self.choose(soft);
         let clock = self.clock;
         self.run(runner);
-        Ok(Answer { clock, runner, closing })
+        Answer { clock, runner, closing, unknown, none_ran, not_ready }
     }
 
     fn closing(&self, done: bool) -> Closing {
@@ -137,6 +127,16 @@ impl Dispatcher {
                 self.queued -= 1;
             }
         }
+    }
+
+    fn not_ready(&self, set: u16) -> u16 {
+        let mut not_ready = 0;
+        for (i, row) in self.rows[..self.n].iter().enumerate() {
+            if has(set, i) && (!row.rested || row.open) {
+                not_ready |= 1 << i;
+            }
+        }
+        not_ready
     }
 
     fn release(&mut self, set: u16) {
@@ -197,10 +197,6 @@ impl Dispatcher {
     }
 }
 
-fn closes(closing: Closing, row: usize) -> bool {
-    matches!(closing, Closing::HardDone(i) | Closing::HardSpent(i) if i == row)
-}
-
 impl Station for Dispatcher {
     fn fresh(table: &Table) -> Dispatcher {
         let mut rows = [Row::default(); 16];
@@ -209,7 +205,7 @@ impl Station for Dispatcher {
             *row = Row { c, t, u, rank, rested: true, ..Row::default() };
         }
         Dispatcher {
-            n: 16,
+            n: table.rows().count(),
             rows,
             uploads: [Upload::default(); 8],
             queued: 0,
@@ -236,18 +232,19 @@ impl Station for Dispatcher {
 #[inline(never)]
 extern "C" fn plain_tick(dispatcher: &mut Dispatcher, set: u16, flags: u8) -> TickAnswer {
     if flags > DONE | SOFT {
-        return refused(20, 0);
+        return unknown_flags();
     }
-    match dispatcher.step(set, flags & DONE != 0, flags & SOFT != 0) {
-        Ok(answer) => accepted(answer),
-        Err(Refusal::Unknown(i)) => refused(12, number(i)),
-        Err(Refusal::NoneRan) => refused(13, 0),
-        Err(Refusal::NotReady(i)) => refused(14, number(i)),
-    }
+    in_numbers(dispatcher.step(set, flags & DONE != 0, flags & SOFT != 0))
 }
 
-fn accepted(answer: Answer) -> TickAnswer {
-    let mut a = TickAnswer { clock: answer.clock, ..TickAnswer::default() };
+fn in_numbers(answer: Answer) -> TickAnswer {
+    let mut a = TickAnswer {
+        clock: answer.clock,
+        unknown: answer.unknown,
+        not_ready: answer.not_ready,
+        none_ran: answer.none_ran as u8,
+        ..TickAnswer::default()
+    };
     match answer.runner {
         Runner::Hard(i, Band::Upper) => (a.runner, a.runner_row, a.band) = (1, number(i), 1),
         Runner::Hard(i, Band::Lower) => (a.runner, a.runner_row, a.band) = (1, number(i), 2),

@@ -15,8 +15,10 @@ pub struct TickAnswer {
     pub clock: u32,
     pub ticket: u32,
     pub closed_ticket: u32,
+    pub unknown: u16,
+    pub not_ready: u16,
     pub refusal: u8,
-    pub row: u8,
+    pub none_ran: u8,
     pub runner: u8,
     pub runner_row: u8,
     pub band: u8,
@@ -25,8 +27,9 @@ pub struct TickAnswer {
     pub closing: u8,
 }
 
-pub fn refused(refusal: u8, row: u8) -> TickAnswer {
-    TickAnswer { refusal, row, ..TickAnswer::default() }
+/// The answer to flags that nobody knows.
+pub fn unknown_flags() -> TickAnswer {
+    TickAnswer { refusal: 20, ..TickAnswer::default() }
 }
 
 /// Each tick goes through an extern "C" function that is neither inlined nor mangled, so that callgrind can name it.

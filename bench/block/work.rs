@@ -6,15 +6,16 @@ use crate::station::{Station, TickAnswer, DONE, SOFT};
 use crate::{fast, plain};
 use std::ops::Range;
 
-/// Sixteen rows with D = T, rate-monotonic, ranks mixed.
+/// Rows with D = T, rate-monotonic, ranks mixed.
 #[derive(Clone, Copy)]
 pub struct Table {
+    n: u32,
     c: fn(u32) -> u32,
     t: fn(u32) -> u32,
 }
 
-const SHORT: Table = Table { c: |i| 1 + i % 2, t: |i| 20 + 13 * i };
-const LONG: Table = Table { c: |i| 4 + i % 5, t: |i| 64 + 13 * i };
+const SHORT: Table = Table { n: 16, c: |i| 1 + i % 2, t: |i| 20 + 13 * i };
+const LONG: Table = Table { n: 16, c: |i| 4 + i % 5, t: |i| 64 + 13 * i };
 
 /// A planned row, as a peer is given it.
 pub struct Row {
@@ -26,9 +27,9 @@ pub struct Row {
 
 impl Table {
     pub fn rows(&self) -> impl Iterator<Item = Row> + '_ {
-        (0..16).map(|i| {
+        (0..self.n).map(|i| {
             let [c, t, r] = [(self.c)(i), (self.t)(i), self.bound(i)].map(|x| x as u16);
-            Row { c, t, u: t - r, rank: rank(i) }
+            Row { c, t, u: t - r, rank: self.rank(i) }
         })
     }
 
@@ -49,20 +50,21 @@ impl Table {
     /// The table as its file.
     pub fn file(&self) -> Vec<u8> {
         let mut file = Vec::new();
-        for i in 0..16 {
+        for i in 0..self.n {
             file.extend([1, 0, 7]);
             for x in [(self.c)(i), (self.t)(i), (self.t)(i)] {
                 file.extend((x as u16).to_be_bytes());
             }
-            file.push(rank(i));
+            file.push(self.rank(i));
         }
         file.extend([15, 0, 0]);
         file
     }
-}
 
-fn rank(i: u32) -> u8 {
-    ((i * 7 + 3) % 16) as u8
+    /// 7 and n have no divisor in common.
+    fn rank(&self, i: u32) -> u8 {
+        ((i * 7 + 3) % self.n) as u8
+    }
 }
 
 #[derive(Clone, Copy)]
@@ -83,19 +85,24 @@ pub struct Stretch {
     pub ticks: Range<usize>,
 }
 
-/// How a workload is made: soft in `soft` ticks of 8, offers of up to `budget` ticks.
+/// How a workload is made: soft in `soft` ticks of 8, offers of up to `budget` ticks, noise in one tick of `noise`.
 pub struct Kind {
     pub name: &'static str,
     table: Table,
     soft: u64,
     budget: u64,
+    noise: u64,
 }
 
 pub const KINDS: [Kind; 3] = [
-    Kind { name: "light", table: SHORT, soft: 6, budget: 0 },
-    Kind { name: "firm", table: SHORT, soft: 6, budget: 12 },
-    Kind { name: "heavy", table: LONG, soft: 7, budget: 4 },
+    Kind { name: "light", table: SHORT, soft: 6, budget: 0, noise: 256 },
+    Kind { name: "firm", table: SHORT, soft: 6, budget: 12, noise: 256 },
+    Kind { name: "heavy", table: LONG, soft: 7, budget: 4, noise: 256 },
 ];
+
+/// Only to be compared: a table that is not full, and so much noise that every note is met with every other.
+pub const NOISY: Kind =
+    Kind { name: "noisy", table: Table { n: 9, ..LONG }, soft: 5, budget: 4, noise: 2 };
 
 /// The library and its peers, in the same state.
 pub struct Three {
@@ -134,6 +141,8 @@ pub struct Work {
     pub stretches: Vec<Stretch>,
     /// Of the ticks: upper, lower, firm, soft, idle, refused.
     pub ran: [usize; 6],
+    /// Those that noted 12, 13 and 14, and all three.
+    pub noted: [usize; 4],
     pub offers: usize,
     /// The states that it ends in.
     pub end: Three,
@@ -146,6 +155,7 @@ pub fn compared(kind: &Kind, ticks: usize) -> Work {
     let mut events = Vec::with_capacity(ticks);
     let mut stretches = vec![Stretch { offer: None, ticks: 0..0 }];
     let mut ran = [0; 6];
+    let mut noted = [0; 4];
     let mut offers = 0;
     for tick in 0..ticks {
         let flags = random(&mut seed);
@@ -158,14 +168,17 @@ pub fn compared(kind: &Kind, ticks: usize) -> Work {
                 stretches.push(Stretch { offer: Some(offer), ticks: tick..tick });
             }
         }
-        let event = event(&three.plain, random(&mut seed), flags, kind.soft);
+        let event = event(&three.plain, random(&mut seed), flags, kind);
         let [ours, plain, fast] = three.tick(event);
         assert_eq!([ours; 2], [plain, fast], "{}: tick {tick}, ours left", kind.name);
         ran[ran_as(ours)] += 1;
+        for (ticks, met) in noted.iter_mut().zip(notes(ours)) {
+            *ticks += met as usize;
+        }
         events.push(event);
         stretches.last_mut().unwrap().ticks.end = events.len();
     }
-    Work { table: kind.table, events, stretches, ran, offers, end: three }
+    Work { table: kind.table, events, stretches, ran, noted, offers, end: three }
 }
 
 fn random(seed: &mut u64) -> u64 {
@@ -173,10 +186,10 @@ fn random(seed: &mut u64) -> u64 {
     *seed >> 33
 }
 
-/// Of the rows that may be released each by chance; done a quarter of the time after a job; soft in `soft` ticks of 8; and in
-/// one of 256 any set and any flags at all, mostly refused.
-fn event(station: &plain::Dispatcher, chance: u64, flags: u64, soft: u64) -> Event {
-    if chance >> 16 & 255 == 0 {
+/// Of the rows that may be released each by chance; done a quarter of the time after a job; soft in some ticks of 8; and where
+/// there is noise any set and any flags at all, half of them refused.
+fn event(station: &plain::Dispatcher, chance: u64, flags: u64, kind: &Kind) -> Event {
+    if (chance >> 16) % kind.noise == 0 {
         return Event { set: chance as u16, flags: (flags & 7) as u8 };
     }
     let mut set = 0;
@@ -186,8 +199,15 @@ fn event(station: &plain::Dispatcher, chance: u64, flags: u64, soft: u64) -> Eve
         }
     }
     let done = station.last != plain::Last::Nobody && flags & 3 == 0;
-    let soft = flags >> 2 & 7 < soft;
+    let soft = flags >> 2 & 7 < kind.soft;
     Event { set, flags: done as u8 * DONE + soft as u8 * SOFT }
+}
+
+/// Whether it noted 12, 13, 14, and all three.
+fn notes(answer: TickAnswer) -> [bool; 4] {
+    let [unknown, none_ran, not_ready] =
+        [answer.unknown != 0, answer.none_ran != 0, answer.not_ready != 0];
+    [unknown, none_ran, not_ready, unknown && none_ran && not_ready]
 }
 
 fn ran_as(answer: TickAnswer) -> usize {
