@@ -1,4 +1,5 @@
-//! A reference for the rules of document 01, with document 02's margins (§1).
+//! A reference for the rules of document 01, with document 02's margins (§1) and
+//! notes (§3).
 //!
 //! It is written to be read beside the papers, not to be fast. Time is the true
 //! number of accepted ticks, as a `u128` that never rolls over; the 32-bit
