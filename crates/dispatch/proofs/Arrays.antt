@@ -12,10 +12,11 @@ use lib.ListN.{length, getD, set, List·getD-eq-default}
 use lib.Seq.{getD-set-same, getD-set-other}
 use borrow.Author.Tests.{eq-eqb, eqb-false, eqb-true, ne-eqb}
 use Rattle.rules.specs.Tick.{bit}
+use Rattle.rules.proofs.Bools.{and-no, and-yes}
 use Rattle.state.specs.Meaning.{entry}
 use Rattle.state.specs.Sets.{others}
 use Rattle.state.proofs.Bits.{bit-and, bit-one, bit-or, bit-others, bit-past, bit-zero}
-use Rattle.state.proofs.Bools.{and-no, and-yes, or-no}
+use Rattle.state.proofs.Bools.{or-no}
 use Rattle.dispatch.specs.Loops.{marked, rowsThat, upto}
 use Rattle.dispatch.specs.Steps.{shifted}
 use Rattle.dispatch.proofs.Loops.{that-lt}

@@ -4,22 +4,23 @@ use mathlib.Core.Bool.{Bool, true, false, cond}
 use mathlib.Core.List.{List}
 use mathlib.Core.Path.{_≡_, ap, refl, subst, sym}
 use native.Mathlib.Omega.{arith}
-use lib.Bits.{bitAnd}
 use lib.Dec.{eqb, ltb}
 use borrow.Author.Tests.{ltb-true}
 use Rattle.rules.specs.Tick.{bit}
 use Rattle.state.specs.declared.Rows.{Rows}
 use Rattle.state.specs.declared.State.{State}
 use Rattle.state.specs.Meaning.{entry}
-use Rattle.state.specs.Sets.{least, others}
+use Rattle.state.specs.Sets.{least}
+use Rattle.answer.specs.declared.Closing.{Closing}
 use Rattle.answer.specs.declared.Closing.the-variants.{FirmDone, FirmSpent, HardDone, HardSpent, Nothing}
+use Rattle.answer.specs.declared.Notes.{Notes}
 use Rattle.answer.specs.declared.Runner.the-variants.{Firm, Hard, Idle, Soft}
 use Rattle.answer.specs.declared.Band.the-variants.{Lower, Upper}
 use Rattle.answer.specs.Below.{AnswerBelow, ClosingBelow, RunnerBelow}
 use Rattle.dispatch.specs.declared.Ticked.{Ticked}
 use Rattle.dispatch.specs.declared.sets.Best.{Best}
 use Rattle.dispatch.specs.Loops.{foldRows, lowAt, noBest}
-use Rattle.dispatch.specs.Steps.{askedIn, chosenIn, closedBy, closingIn, lowerOf, promotedRows, releasedBy, steppedIn, tickIn, unreadyIn}
+use Rattle.dispatch.specs.Steps.{chosenIn, closingIn, lowerOf, promotedRows, releasedBy, steppedIn, tickIn}
 
 closing-below : (rows : Rows) (s : State) (d : Bool) → ClosingBelow (closingIn rows s d)
 closing-below rows s d =
@@ -75,11 +76,13 @@ chosen-below rows s soft =
     let lowest = fold-below low (low-below (rows .table .rank) (s .«open»)) 0 16 noBest (omega arith) (λ q. absurd (omega arith)) in
     choice-below (least (promotedRows rows s)) (entry (s .ticket) 0) (foldRows low 0 16 noBest) lowest (ltb (least (promotedRows rows s)) 16) refl (ltb 0 (s .count)) soft
 
+stepped-below : (rows : Rows) (s : State) (set : ℕ) (soft : Bool) (c : Closing) (n : Notes) → ClosingBelow c → AnswerBelow (steppedIn rows s set soft c n .answer)
+unfolding steppedIn
+stepped-below rows s set soft c n h = (chosen-below rows (releasedBy s set) soft, h)
+
 tick-below : (rows : Rows) (s : State) (set : ℕ) (d soft : Bool) → AnswerBelow (tickIn rows s set d soft .answer)
-unfolding tickIn steppedIn
-tick-below rows s set d soft =
-    let t = closedBy s (closingIn rows s d) in
-    (chosen-below rows (releasedBy t (bitAnd (askedIn rows set) (others (unreadyIn t)))) soft, closing-below rows s d)
+unfolding tickIn
+tick-below rows s set d soft = stepped-below rows _ _ soft _ _ (closing-below rows s d)
 
 -- a tick that was made
 pub answer-below : (rows : Rows) (s : State) (set : ℕ) (d soft : Bool) {r : Ticked} → r ≡ tickIn rows s set d soft → AnswerBelow (r .answer)

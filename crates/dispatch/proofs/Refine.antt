@@ -1,14 +1,13 @@
 -- The tick in memory is the rules' tick: on every state that a block may hold, and for every call. Assumes nothing.
-use Prim.Native.Nat.{ℕ, zero, suc, _+_, _-_, _^_, _<_, _≤_}
+use Prim.Native.Nat.{ℕ, suc, _-_, _^_, _<_, _≤_}
 use mathlib.Core.Bool.{Bool, true, false, not, cond, _&&_, _||_}
 use mathlib.Core.List.{_∷_}
-use mathlib.Core.Option.{Option·map, none, some}
 use mathlib.Core.Path.{_≡_, refl, sym, _∙_, ap, ap₂, subst}
 use native.Mathlib.Omega.{arith}
 use native.Mathlib.Decide.{decLt}
 use lib.Bits.{and-le-l, bitAnd, or-lt}
 use lib.ListN.{getElem?, length}
-use native.Mathlib.Nat.{add-suc, add-zero, lt-of-le-of-lt, suc-add, zero-add}
+use native.Mathlib.Nat.{lt-of-le-of-lt, zero-add}
 use lib.Dec.{eqb, ltb}
 use borrow.Author.Tests.{eq-eqb, eqb-false, eqb-true, le-ltb, lt-ltb, ltb-false, ltb-true, ne-eqb, not-true}
 use Rattle.rules.specs.Lists.{All}
@@ -16,7 +15,7 @@ use Rattle.rules.specs.Station.{Station, closed, firm-of, isOpen, nobody, opene
 use Rattle.rules.specs.Tick.{bit, choose, close, noneRan, notesOf, opens, release, released, tick, unknownBits, unready}
 use Rattle.rules.specs.Tick as rules
 use Rattle.rules.proofs.Bits.{bit-above, same-bits, set-at, set-past}
-use Rattle.rules.proofs.Bools.{and-true}
+use Rattle.rules.proofs.Bools.{and-no, and-true, and-yes}
 use Rattle.rules.proofs.Close.{close-good, close-live, close-queue, close-unspent, without-all}
 use Rattle.rules.proofs.Facts.{Good, Paid, Unspent}
 use Rattle.rules.proofs.Image.{Image, tick-image}
@@ -28,12 +27,12 @@ use Rattle.rules.proofs.Walks.{all-both, each-all}
 use Rattle.state.specs.declared.Rows.{Rows}
 use Rattle.state.specs.declared.State.{State}
 use Rattle.state.specs.Meaning.{Kept, Stored, entry, firmAt, lastOf, rowsFrom, slotAt, slotsOf, stationOf, wrapped}
-use Rattle.state.specs.Sets.{known, least, others}
+use Rattle.state.specs.Sets.{known, others}
 use Rattle.state.proofs.Agrees.{Agrees}
-use Rattle.state.proofs.Bits.{bit-and, bit-known, bit-or, bit-others, bit-past, first-least, found, known-lt, least-below}
-use Rattle.state.proofs.Positions.{all-rows, find-least, first-row, length-rows}
+use Rattle.state.proofs.Bits.{bit-and, bit-known, bit-or, bit-others, known-lt}
+use Rattle.state.proofs.Positions.{all-rows, elem-of, first-row, length-rows}
 use Rattle.state.proofs.Widths.{U-le, image-of, positive, row-good, thin}
-use Rattle.state.proofs.Bools.{and-no, and-yes, leb-ltb}
+use Rattle.state.proofs.Bools.{leb-ltb}
 use Rattle.answer.specs.Answers.{answerOf, runnerOf}
 use Rattle.answer.specs.Answers as answers
 use Rattle.dispatch.specs.declared.Ticked.{Ticked}
@@ -48,12 +47,6 @@ use Rattle.dispatch.proofs.RefineRun.{run-refines}
 -- as TickRefines, but for the image
 abbrev Steps : Rows → rules.Outcome → Ticked → Type 0
 Steps rows o r = (r .answer ≡ answerOf (o .answer)) × (stationOf rows (r .state) ≡ o .station) × Kept rows (r .state)
-
-get-row : {A : Type 0} (g : ℕ → A) (i j k : ℕ) → j < k → getElem? (rowsFrom g i k) j ≡ some (g (i + j))
-unfolding rowsFrom
-get-row g i j zero h = absurd (omega arith)
-get-row g i zero (suc k) h = rw (add-zero i) refl
-get-row g i (suc j) (suc k) h = rw (add-suc i j, ← suc-add i j) (get-row g (suc i) j k (omega arith))
 
 module _ (rows : Rows) (s : State) (S : Stored rows s) (set : ℕ) (small : set < 2 ^ 16) where
   abbrev st : Station
@@ -144,7 +137,7 @@ module _ (rows : Rows) (s : State) (S : Stored rows s) (set : ℕ) (small : set 
       where
         go : Dec (j < rows .table .n) → bit (n .not-ready) j ≡ ((bit set j && ltb j (rows .table .n)) && bit (unreadyIn t) j)
         go (yes l) =
-            rw (zero-add j) at (set-at (unready set) 0 j (c .slots) (slotAt rows t j) (ap (λ ss. getElem? ss j) (sym (t-agrees .slots-is)) ∙ (rw (zero-add j) at (get-row (slotAt rows t) 0 j (rows .table .n) l))))
+            rw (zero-add j) at (set-at (unready set) 0 j (c .slots) (slotAt rows t j) (ap (λ ss. getElem? ss j) (sym (t-agrees .slots-is)) ∙ (rw (zero-add j) at (elem-of (slotAt rows t) 0 j (rows .table .n) l))))
             ∙ rw (lt-ltb j (rows .table .n) l, and-yes (bit set j), bit-unready j l)
         go (no l) = set-past (unready set) 0 j (c .slots) (omega (arith, slots-length)) ∙ rw (le-ltb j (rows .table .n) (omega arith), and-no (bit set j))
 

@@ -9,7 +9,7 @@ use lib.Dec.{leb, ltb}
 use borrow.Author.Tests.{le-ltb, leb-false, leb-true, lt-ltb}
 use Rattle.rules.specs.Station.{Last, hold}
 use Rattle.rules.specs.Tick.{bit, lastAt, passRows, passed, ranOnce}
-use Rattle.rules.proofs.Bools.{or-false}
+use Rattle.rules.proofs.Bools.{and-no, and-yes, or-false}
 use Rattle.table.specs.Memory.{rowAt}
 use Rattle.state.specs.declared.Rows.{Rows}
 use Rattle.state.specs.declared.State.{State}
@@ -17,7 +17,6 @@ use Rattle.state.specs.Meaning.{Kept, ageAt, entry, jobAt, slotAt, slotsOf, wra
 use Rattle.state.specs.Sets.{known}
 use Rattle.state.proofs.Bits.{bit-and, bit-known, bit-or}
 use Rattle.state.proofs.Positions.{each-rows}
-use Rattle.state.proofs.Bools.{and-no, and-yes}
 use Rattle.dispatch.specs.Loops.{agedAt, marked, rowsThat, upto}
 use Rattle.dispatch.specs.Steps.{advanced, nextClock, restedNext}
 use Rattle.dispatch.proofs.Arrays.{bit-that, length-upto, stamped-at}

@@ -7,7 +7,7 @@ use native.Mathlib.Nat.{lt-of-le-of-lt}
 use lib.Bits.{bitAnd, and-le-l, or-lt}
 use Rattle.rules.specs.Station.{closed, hold, opened}
 use Rattle.rules.specs.Tick.{bit, release, released}
-use Rattle.rules.proofs.Bools.{and-true, or-false}
+use Rattle.rules.proofs.Bools.{and-no, and-true, and-yes, or-false}
 use Rattle.table.specs.Memory.{rowAt}
 use Rattle.state.specs.declared.Rows.{Rows}
 use Rattle.state.specs.declared.State.{State}
@@ -15,7 +15,7 @@ use Rattle.state.specs.Meaning.{Kept, entry, slotAt, slotsOf, wrapped}
 use Rattle.state.specs.Sets.{others}
 use Rattle.state.proofs.Bits.{bit-or}
 use Rattle.state.proofs.Positions.{each-rows}
-use Rattle.state.proofs.Bools.{and-no, and-yes, or-no}
+use Rattle.state.proofs.Bools.{or-no}
 use Rattle.dispatch.specs.Loops.{marked, upto}
 use Rattle.dispatch.specs.Steps.{releasedBy}
 use Rattle.dispatch.proofs.Arrays.{bit-minus, length-upto, stamped-at}

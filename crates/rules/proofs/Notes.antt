@@ -1,5 +1,5 @@
 -- The notes of a tick are what 12, 13 and 14 are about, and the tick is that of the call with all of it cleared. Assumes nothing.
-use Prim.Native.Nat.{suc, zero, ℕ, _+_, _-_, _<_, _≤_}
+use Prim.Native.Nat.{suc, ℕ, _+_, _-_, _<_, _≤_}
 use mathlib.Core.Bool.{Bool, cond, false, false≢true, not, true, true≢false, _&&_, _||_}
 use mathlib.Core.List.{List, [], _∷_}
 use mathlib.Core.Logic.{_↔_}
@@ -17,9 +17,9 @@ use Rattle.rules.specs.Station.{Last, Slot, Station, closed, firm-of, is
 use Rattle.rules.specs.Tick.{Notes, Outcome, bit, choose, close, closeLast, noneRan, notesOf, opens, release, run, shut, stepped, tick, unknownBits, unready}
 use Rattle.rules.specs.Promise.{Noted, cleared, noNotes}
 use Rattle.rules.proofs.Bits.{bit-above, bit-minus, bit-zero, same-bits, set-at, set-lt, set-past}
-use Rattle.rules.proofs.Bools.{and-true, and-yes, none-some, or-false, some-eq}
+use Rattle.rules.proofs.Bools.{and-true, and-yes, or-false, some-eq}
 use Rattle.rules.proofs.Close.{close-slots}
-use Rattle.rules.proofs.Walks.{length-each}
+use Rattle.rules.proofs.Walks.{elem-at, elem-lt, length-each}
 
 -- the empty set
 set-empty : (t : ℕ → Slot → Bool) (i : ℕ) (ss : List Slot) → ((k : ℕ) (s : Slot) → getElem? ss k ≡ some s → t (i + k) s ≡ false) → setOf t i ss ≡ 0
@@ -56,16 +56,6 @@ flag-about-job d l h = go (noneRan l d) refl
     go : (b : Bool) → noneRan l d ≡ b → b ≡ false
     go false e = refl
     go true e = let (x, y) = none-ran-iff d l .0 e in absurd (h x y)
-
-elem-at : (ss : List Slot) (k : ℕ) → k < length ss → (s : Slot) × (getElem? ss k ≡ some s)
-elem-at [] k h = absurd (omega arith)
-elem-at (s ∷ ss) zero h = (s, refl)
-elem-at (s ∷ ss) (suc k) h = elem-at ss k (omega arith)
-
-elem-lt : (ss : List Slot) (k : ℕ) (s : Slot) → getElem? ss k ≡ some s → k < length ss
-elem-lt [] k s e = absurd (none-some e)
-elem-lt (a ∷ ss) zero s e = omega arith
-elem-lt (a ∷ ss) (suc k) s e = omega (arith, elem-lt ss k s e)
 
 -- neither noted
 neither : (a b c : Bool) → ((a && not b) && not c) ≡ (a && not (b || c))

@@ -5,7 +5,7 @@ use mathlib.Core.List.{List, [], _∷_}
 use mathlib.Core.Option.{none, some}
 use mathlib.Core.Path.{refl, sym, _∙_, _≡_}
 use lib.Dec.{leb}
-use lib.ListN.{getElem?, length}
+use lib.ListN.{getElem?, length, length-map}
 use Rattle.rules.specs.Rows.{Row}
 use Rattle.rules.specs.Station.{Job, Slot, Station, closed, isOpen, rested, rowsOf}
 use Rattle.rules.specs.Tick.{bit, close}
@@ -22,10 +22,6 @@ slot-at [] k r e = absurd (none-some e)
 slot-at (s ∷ ss) zero r e = (s, refl, some-eq e)
 slot-at (s ∷ ss) (suc k) r e = slot-at ss k r e
 
-length-rows : (ss : List Slot) → length (rowsOf ss) ≡ length ss
-length-rows [] = refl
-length-rows (s ∷ ss) = rw (length-rows ss)
-
 -- where no rested row has a job open, a row is ready if it is rested
 ready-if-rested : (j : Job) (b : Bool) → (b ≡ true → j ≡ closed) → (b && not (isOpen j)) ≡ b
 ready-if-rested j false h = refl
@@ -36,7 +32,7 @@ noted-in-time rs start q T N = record {
   unknown-are = λ before set flags k.
       let st = after start before in
       on-call (λ st′ x. bit (x .notes .unknown) k ≡ (bit set k && leb (length rs) k)) st set flags
-      (rw (sym (length-rows (st .slots)), rows-after rs before start q) at (notes-are st set (doneFlag flags) (softFlag flags) .unknown-is k));
+      (rw (sym (length-map (st .slots) (λ s. s .row)), rows-after rs before start q) at (notes-are st set (doneFlag flags) (softFlag flags) .unknown-is k));
   not-ready-are = λ before set flags k r e.
       let st = after start before in
       let d = doneFlag flags in

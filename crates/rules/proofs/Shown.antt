@@ -16,6 +16,7 @@ use Rattle.rules.specs.File.{Field, fieldBytes, fieldRows, fieldsFault, 
 use Rattle.rules.specs.Tables.{Bytes}
 use Rattle.rules.proofs.Bools.{none-some, some-eq}
 use Rattle.rules.proofs.Scan.{fieldsBytes, scan-whole}
+use Rattle.rules.proofs.Walks.{elem-at}
 
 -- the row that a refusal names is one of the file's
 fault-row : (n : ℕ) (earlier : List Row) (i : ℕ) (fs : List Field) (x : Refused) → fieldsFault n earlier i fs ≡ some x → x .row < i + length fs
@@ -68,14 +69,9 @@ shown-field zero (g ∷ fs) f e = let same : g ≡ f = some-eq e in rw (sym same
 shown-field (suc k) (g ∷ fs) f e =
     rw (sym (drop-drop (sizes (take k fs)) (sizeOf (g .tag)) (fieldBytes g ++ fieldsBytes fs)), field-first g (fieldsBytes fs) .1) (shown-field k fs f e)
 
-at-position : {A : Type 0} (l : List A) (k : ℕ) → k < length l → (a : A) × (getElem? l k ≡ some a)
-at-position [] k h = absurd (omega arith)
-at-position (a ∷ l) zero h = (a, refl)
-at-position (a ∷ l) (suc k) h = at-position l k (omega arith)
-
 pub row-shown : (s : List ℕ) → Bytes s → (fs : List Field) → scan 16 0 s ≡ whole fs → (x : Refused) → planFields fs ≡ unplanned x
     → (f : Field) × (getElem? fs (x .row) ≡ some f) × (from : ℕ) × (size : ℕ) × (read s ≡ unread (x .why) from size) × (take size (drop from s) ≡ fieldBytes f)
 unfolding read
 row-shown s h fs scanned x e =
-    let (f, here) = at-position fs (x .row) (plan-row fs x e) in
+    let (f, here) = elem-at fs (x .row) (plan-row fs x e) in
     (f, here, sizes (take (x .row) fs), sizes (take 1 (drop (x .row) fs)), rw (scanned, e) refl, rw (scan-whole 16 0 s h fs scanned .bytes-are) (shown-field (x .row) fs f here))

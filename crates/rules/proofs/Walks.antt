@@ -1,5 +1,5 @@
 -- Laws of the functions that walk a list with positions: everywhere, and at one position. Assumes nothing.
-use Prim.Native.Nat.{suc, zero, ℕ, _+_, _≤_}
+use Prim.Native.Nat.{suc, zero, ℕ, _+_, _≤_, _<_}
 use mathlib.Core.Bool.{Bool, false≢true, true, _&&_}
 use mathlib.Core.List.{List, [], map, _++_, _∷_}
 use mathlib.Core.Logic.{inl, inr, _↔_, _⊎_}
@@ -92,6 +92,18 @@ module _ {A : Type 0} where
   at-holds k i [] a e = none-some e
   at-holds zero i (b ∷ l) a e = inl (rw add-zero, some-eq e)
   at-holds (suc k) i (b ∷ l) a e = inr (rw (add-suc i k, ← suc-add i k) (at-holds k (suc i) l a e))
+
+  -- there is one at each position below the length, and at no other
+
+  pub elem-at : (l : List A) (k : ℕ) → k < length l → (a : A) × (getElem? l k ≡ some a)
+  elem-at [] k h = absurd (omega arith)
+  elem-at (a ∷ l) zero h = (a, refl)
+  elem-at (a ∷ l) (suc k) h = elem-at l k (omega arith)
+
+  pub elem-lt : (l : List A) (k : ℕ) (a : A) → getElem? l k ≡ some a → k < length l
+  elem-lt [] k a e = absurd (none-some e)
+  elem-lt (b ∷ l) zero a e = omega arith
+  elem-lt (b ∷ l) (suc k) a e = omega (arith, elem-lt l k a e)
 
   -- everywhere, told the position
 

@@ -1,17 +1,9 @@
 -- Tests joined with a settled one, and a comparison turned round. Assumes nothing.
 use Prim.Native.Nat.{ℕ}
-use mathlib.Core.Bool.{Bool, true, false, not, _&&_, _||_}
+use mathlib.Core.Bool.{Bool, true, false, not, _||_}
 use mathlib.Core.Path.{_≡_, refl}
 use lib.Dec.{leb, ltb}
 use borrow.Author.Tests.{le-leb, lt-leb, ltb-false, ltb-true}
-
-pub and-yes : (b : Bool) → (b && true) ≡ b
-and-yes true = refl
-and-yes false = refl
-
-pub and-no : (b : Bool) → (b && false) ≡ false
-and-no true = refl
-and-no false = refl
 
 pub or-no : (b : Bool) → (b || false) ≡ b
 or-no true = refl

@@ -3,13 +3,13 @@ use Prim.Native.Nat.{ℕ, zero, suc, _+_, _<_, _≤_}
 use mathlib.Core.Bool.{Bool, false, _&&_, _||_}
 use mathlib.Core.List.{_∷_, map}
 use mathlib.Core.Logic.{inl, inr}
-use mathlib.Core.Option.{none}
+use mathlib.Core.Option.{none, some}
 use mathlib.Core.Path.{_≡_, refl, sym, _∙_, ap, ap₂}
 use native.Mathlib.Omega.{arith}
 use native.Mathlib.Decide.{decLe}
-use native.Mathlib.Nat.{not-suc-le-zero, le-of-suc-le-suc}
+use native.Mathlib.Nat.{add-suc, add-zero, not-suc-le-zero, le-of-suc-le-suc, suc-add}
 use lib.Dec.{eqb}
-use lib.ListN.{length}
+use lib.ListN.{getElem?, length}
 use borrow.Author.Tests.{eq-eqb, ne-eqb}
 use Rattle.rules.specs.Lists.{All, any, each, find, firstOf}
 use Rattle.rules.specs.Tick.{bit}
@@ -29,6 +29,12 @@ module _ {A : Type 0} where
   pub first-row : (g : ℕ → A) (i k m : ℕ) → k ≡ suc m → rowsFrom g i k ≡ g i ∷ rowsFrom g (suc i) m
   unfolding rowsFrom
   first-row g i k m e = rw e
+
+  pub elem-of : (g : ℕ → A) (i j k : ℕ) → j < k → getElem? (rowsFrom g i k) j ≡ some (g (i + j))
+  unfolding rowsFrom
+  elem-of g i j zero h = absurd (omega arith)
+  elem-of g i zero (suc k) h = rw (add-zero i) refl
+  elem-of g i (suc j) (suc k) h = rw (add-suc i j, ← suc-add i j) (elem-of g (suc i) j k (omega arith))
 
   -- changed at every position
   pub each-rows : (h : ℕ → A → A) (g changed : ℕ → A) (i k : ℕ) → ((j : ℕ) → j < i + k → changed j ≡ h j (g j)) → rowsFrom changed i k ≡ each h i (rowsFrom g i k)

@@ -1,5 +1,4 @@
 -- `event::tick_event` meets its contract: the flags. Assumes nothing.
-use mathlib.Core.Path.{sym, ap, _∙_}
 use native.Mathlib.Nat.{div-one}
 use borrow.Author.Tests.{le-leb, lt-leb}
 use borrow.Author.Needs.{needs}

@@ -1,6 +1,6 @@
 -- `words::get32s` meets its contract: one number after another is read. Assumes nothing.
 use Prim.Native.Nat.{_*_, _+_, _-_, _≤_}
-use mathlib.Core.Path.{_≡_, refl, sym, _∙_}
+use mathlib.Core.Path.{_≡_, refl, sym}
 use lib.ListN.{length, length-set, take}
 use native.Mathlib.Omega.{arith}
 use Rattle.block.specs.Words.{le32, le32sAt}

@@ -1,6 +1,6 @@
 -- `words::get8s` meets its contract: one number after another is read. Assumes nothing.
 use Prim.Native.Nat.{_*_, _+_, _-_, _≤_}
-use mathlib.Core.Path.{_≡_, ap, refl, sym, _∙_}
+use mathlib.Core.Path.{_≡_, ap, refl, sym}
 use lib.ListN.{length, length-set, take}
 use native.Mathlib.Nat.{one-mul}
 use native.Mathlib.Omega.{arith}

@@ -1,5 +1,5 @@
 -- `words::put8s` meets its contract: one number after another is put. Assumes nothing.
-use Prim.Native.Nat.{_*_, _+_, _-_, _≤_}
+use Prim.Native.Nat.{_+_, _-_, _≤_}
 use mathlib.Core.Path.{_≡_, _∙_}
 use lib.ListN.{length, take}
 use lib.Seq.{sets}
