@@ -16,9 +16,11 @@ use Rattle.rules.specs.Tick.{Outcome, tick}
 use Rattle.state.specs.declared.Rows.{Rows}
 use Rattle.state.specs.declared.State.{State}
 use Rattle.state.specs.Meaning.{Stored, stationOf}
+use Rattle.answer.specs.Below.{AnswerBelow}
 use Rattle.dispatch.specs.declared.Ticked.{Ticked}
 use Rattle.dispatch.specs.Refines.{TickRefines}
 use Rattle.dispatch.specs.Steps.{tickIn}
+use Rattle.dispatch.proofs.NamedRows.{answer-below}
 use Rattle.dispatch.proofs.Refine.{tick-refines}
 use Rattle.offer.specs.declared.OfferMade.{OfferMade}
 use Rattle.offer.specs.Answers.{OfferIs}
@@ -33,7 +35,7 @@ use Rattle.board.specs.declared.OfferAnswer.{OfferAnswer}
 use Rattle.board.specs.declared.TickAnswer.{TickAnswer}
 use Rattle.board.specs.Blocks.{Out, giving, madeOn, offerBlock, offerDecoded, tickBlock, tickDecoded, tickedOn}
 use Rattle.board.specs.Numbers.{refusedTick}
-use Rattle.board.specs.Promises.{blockAfter, blockOn, blockReplies, replyOn, then}
+use Rattle.board.specs.Promises.{blockAfter, blockOn, blockReplies, replyOn, withReply}
 use Rattle.board.specs.Replies.{offerReply, tickReply}
 use Rattle.board.proofs.Named.{answer-back, named-back}
 
@@ -86,9 +88,9 @@ module _ (rows : Rows) (s : State) (I : Imaged rows s) where
       let J = stays-imaged rows s s′ I S′ in
       record { rows = rows; state = s′; imaged = J; block-is = sym (written-over rows s s′ I J); station-is = e }
 
-  ticked-stands : (o : Outcome) (r : Ticked) → TickRefines rows o r
+  ticked-stands : (o : Outcome) (r : Ticked) → TickRefines rows o r → AnswerBelow (r .answer)
       → (tickReply (tickedOn r b .answer) ≡ some (answered (o .answer))) × StandsFor (tickedOn r b .block) (o .station)
-  ticked-stands o r (v, e, S′) = (rw v (answer-back (o .answer)), stepped-stands (r .state) (o .station) e S′)
+  ticked-stands o r (v, e, S′) low = (rw v (answer-back (o .answer) (rw v at low)), stepped-stands (r .state) (o .station) e S′)
 
   tick-on : (set flags : ℕ) → tickBlock b set flags ≡ cond (otherFlag flags) (giving (refusedTick (number unknown-flag)) b) (tickDecoded (decodedAs rows s) b set flags)
   unfolding tickBlock
@@ -107,7 +109,7 @@ module _ (rows : Rows) (s : State) (I : Imaged rows s) where
       go true = (refl, same)
       go false =
           ticked-stands (tick st set (doneFlag flags) (softFlag flags)) (tickIn rows s set (doneFlag flags) (softFlag flags))
-          (tick-refines rows s (I .stored) set small (doneFlag flags) (softFlag flags))
+          (tick-refines rows s (I .stored) set small (doneFlag flags) (softFlag flags)) (answer-below rows s set (doneFlag flags) (softFlag flags) refl)
 
   made-stands : (O : Offered) (r : OfferMade) → OfferIs rows s r O
       → (offerReply (madeOn r b .answer) ≡ some (afterOffer st O .reply)) × StandsFor (madeOn r b .block) (afterOffer st O .station)
@@ -135,7 +137,7 @@ pub replies-stands : (cs : List Call) (b : List ℕ) (st : Station) → AllShort
 replies-stands [] b st h H = refl
 replies-stands (c ∷ cs) b st (h, hs) H =
     let (r, H′) = step-stands b st c h H in
-    ap₂ then r (replies-stands cs (blockOn b c) (step st c .station) hs H′)
+    ap₂ withReply r (replies-stands cs (blockOn b c) (step st c .station) hs H′)
 
 pub after-stands : (cs : List Call) (b : List ℕ) (st : Station) → AllShort cs → StandsFor b st → StandsFor (blockAfter b cs) (after st cs)
 after-stands [] b st h H = H

@@ -27,10 +27,10 @@ use Rattle.board.specs.Replies.{offerReply, tickReply}
 
 -- CALLS ON A BLOCK, one after the other
 
--- a reply, if there is one, before others
-abbrev pub then : Option Reply → List Reply → List Reply
-then none rs = rs
-then (some r) rs = r ∷ rs
+-- a reply, if there is one, and those after it
+abbrev pub withReply : Option Reply → List Reply → List Reply
+withReply none rs = rs
+withReply (some r) rs = r ∷ rs
 
 -- the reply to a call
 abbrev pub replyOn : List ℕ → Call → Option Reply
@@ -45,7 +45,7 @@ blockOn b (offer-call B d) = offerBlock b B d .block
 -- the replies to calls, in order; an answer that is no reply adds none
 abbrev pub blockReplies : List ℕ → List Call → List Reply
 blockReplies b [] = []
-blockReplies b (c ∷ cs) = then (replyOn b c) (blockReplies (blockOn b c) cs)
+blockReplies b (c ∷ cs) = withReply (replyOn b c) (blockReplies (blockOn b c) cs)
 
 -- the block after all of them
 abbrev pub blockAfter : List ℕ → List Call → List ℕ

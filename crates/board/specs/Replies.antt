@@ -3,7 +3,7 @@ use Prim.Native.Nat.{ℕ, suc, zero}
 use mathlib.Core.Bool.{Bool, true, false, cond}
 use mathlib.Core.List.{List, [], _∷_}
 use mathlib.Core.Option.{Option, Option·map, none, some}
-use lib.Dec.{eqb}
+use lib.Dec.{eqb, ltb}
 use Rattle.rules.specs.Calls.{Reply, answered, refused, took}
 use Rattle.rules.specs.Refusals.{B-zero, C-over-D, C-zero, D-over-T, M-zero, R-M-over-D, Refusal, after-end, bad-rank, cut, d-under-B, not-image, number, passes-D, queue-full, room-short, row-17, small-output, unknown-flag, unknown-tag, wrong-length}
 use Rattle.rules.specs.Tick.{Answer, Band, Closing, How, Notes, Runner, done, firm, firm-job, hard, hard-job, idle, lower, nothing, soft, spent, upper}
@@ -31,10 +31,10 @@ numbered n (why ∷ others) = cond (eqb (number why) n) (some why) (numbered n o
 abbrev pub named : ℕ → Option Refusal
 named n = numbered n refusals
 
--- the position of a row
+-- the position of a row, which is 1 to 16
 abbrev pub rowRead : ℕ → Option ℕ
 rowRead zero = none
-rowRead (suc k) = some k
+rowRead (suc k) = cond (ltb k 16) (some k) none
 
 -- a flag
 abbrev pub flagRead : ℕ → Option Bool

@@ -37,7 +37,7 @@ use Rattle.answer.specs.Answers.{answerOf, runnerOf}
 use Rattle.answer.specs.Answers as answers
 use Rattle.dispatch.specs.declared.Ticked.{Ticked}
 use Rattle.dispatch.specs.Refines.{TickRefines}
-use Rattle.dispatch.specs.Steps.{advanced, askedIn, closedBy, closingIn, notesIn, ranIn, releasedBy, steppedIn, tickIn, unreadyIn}
+use Rattle.dispatch.specs.Steps.{advanced, askedIn, closedBy, closingIn, notesIn, ranIn, readyIn, releasedBy, steppedIn, tickIn, unreadyIn}
 use Rattle.dispatch.proofs.Arrays.{bit-minus}
 use Rattle.dispatch.proofs.RefineChoose.{choose-refines}
 use Rattle.dispatch.proofs.RefineClose.{close-refines, first-others}
@@ -149,8 +149,8 @@ module _ (rows : Rows) (s : State) (S : Stored rows s) (set : ℕ) (small : set 
     notes-are = λ i. record { unknown = unknown-is i; «none_ran» = sym (none-ran-is d) i; «not_ready» = not-ready-is i }
 
     -- the rows released
-    abbrev acc : ℕ
-    acc = bitAnd (askedIn rows set) (others (unreadyIn t))
+    abbrev ready : ℕ
+    ready = readyIn rows t set
 
     asked-lt : askedIn rows set < 2 ^ 16
     asked-lt = lt-of-le-of-lt (and-le-l set (known (rows .table .n))) small
@@ -158,16 +158,16 @@ module _ (rows : Rows) (s : State) (S : Stored rows s) (set : ℕ) (small : set 
     unready-lt : unreadyIn t < 2 ^ 16
     unready-lt = or-lt 16 (t .«open») (others (t .rested)) (t-kept .jobs .open-lt) (omega arith)
 
-    bit-acc : (j : ℕ) → bit acc j ≡ ((bit set j && ltb j (rows .table .n)) && not (bit (unreadyIn t) j))
-    bit-acc j = bit-minus (askedIn rows set) (unreadyIn t) asked-lt unready-lt j ∙ rw (asked-is j)
+    bit-ready : (j : ℕ) → bit ready j ≡ ((bit set j && ltb j (rows .table .n)) && not (bit (unreadyIn t) j))
+    bit-ready j = bit-minus (askedIn rows set) (unreadyIn t) asked-lt unready-lt j ∙ rw (asked-is j)
 
-    acc-lt : acc < 2 ^ 16
-    acc-lt = lt-of-le-of-lt (and-le-l (askedIn rows set) (others (unreadyIn t))) asked-lt
+    ready-lt : ready < 2 ^ 16
+    ready-lt = lt-of-le-of-lt (and-le-l (askedIn rows set) (others (unreadyIn t))) asked-lt
 
-    opens-is : (j : ℕ) → bit acc j ≡ opens set n j
+    opens-is : (j : ℕ) → bit ready j ≡ opens set n j
     unfolding stationOf
     opens-is j =
-        bit-acc j
+        bit-ready j
         ∙ rw (bit-above (length (slotsOf rows s)) set j, length-rows (slotAt rows s) 0 (rows .table .n), leb-ltb (rows .table .n) j, bit-not-ready j) (go (bit set j) (ltb j (rows .table .n)) (bit (unreadyIn t) j))
       where
         go : (b l u : Bool) → ((b && l) && not u) ≡ (b && not ((b && not l) || ((b && l) && u)))
@@ -175,11 +175,11 @@ module _ (rows : Rows) (s : State) (S : Stored rows s) (set : ℕ) (small : set 
         go true false u = refl
         go true true u = refl
 
-    acc-known : (j : ℕ) → rows .table .n ≤ j → bit acc j ≡ false
-    acc-known j h = bit-acc j ∙ rw (le-ltb j (rows .table .n) h, and-no (bit set j))
+    ready-known : (j : ℕ) → rows .table .n ≤ j → bit ready j ≡ false
+    ready-known j h = bit-ready j ∙ rw (le-ltb j (rows .table .n) h, and-no (bit set j))
 
-    ready : (j : ℕ) → j < rows .table .n → bit acc j ≡ true → bit (t .«open») j ≡ false
-    ready j h e = go (bit (t .«open») j) (rw (bit-or (t .«open») (others (t .rested)) j) at (not-true (bit (unreadyIn t) j) (and-true (bit set j && ltb j (rows .table .n)) (not (bit (unreadyIn t) j)) (sym (bit-acc j) ∙ e) .1)))
+    closed-yet : (j : ℕ) → j < rows .table .n → bit ready j ≡ true → bit (t .«open») j ≡ false
+    closed-yet j h e = go (bit (t .«open») j) (rw (bit-or (t .«open») (others (t .rested)) j) at (not-true (bit (unreadyIn t) j) (and-true (bit set j && ltb j (rows .table .n)) (not (bit (unreadyIn t) j)) (sym (bit-ready j) ∙ e) .1)))
       where
         go : (o : Bool) → (o || bit (others (t .rested)) j) ≡ false → o ≡ false
         go true q = q
@@ -187,13 +187,13 @@ module _ (rows : Rows) (s : State) (S : Stored rows s) (set : ℕ) (small : set 
 
     -- the state once the set is released
     abbrev u : State
-    u = releasedBy t acc
+    u = releasedBy t ready
 
     u-kept : Kept rows u
-    u-kept = release-kept rows t t-kept acc acc-lt acc-known ready (positive rows s S)
+    u-kept = release-kept rows t t-kept ready ready-lt ready-known closed-yet (positive rows s S)
 
     u-slots : slotsOf rows u ≡ release (opens set n) (c .slots)
-    u-slots = release-refines rows t t-kept acc acc-lt acc-known ready (positive rows s S) ∙ ap (release (bit acc)) (t-agrees .slots-is) ∙ (λ i. release (λ j. opens-is j i) (c .slots))
+    u-slots = release-refines rows t t-kept ready ready-lt ready-known closed-yet (positive rows s S) ∙ ap (release (bit ready)) (t-agrees .slots-is) ∙ (λ i. release (λ j. opens-is j i) (c .slots))
 
     unspent-all : All Unspent (slotsOf rows u)
     unspent-all = rw u-slots (each-all (λ x. Good x × Unspent x) Unspent (λ k x. cond (opens set n k) (released x) x) (λ k x. released-unspent (opens set n k) x) 0 (c .slots)
@@ -215,7 +215,7 @@ module _ (rows : Rows) (s : State) (S : Stored rows s) (set : ℕ) (small : set 
         let q = rw e at (close-tickets st d (I .tickets)) in
         (omega (arith, live, paid), first-others (st .next) (firmAt u 0) (rowsFrom (firmAt u) 1 k) (I .tickets .next-lt) (q .0) (q .1))
 
-    steps : (wants : Bool) → Steps rows (rules.stepped (close st d) set n wants) (steppedIn rows t acc wants (closingIn rows s d) (notesIn rows s t set d))
+    steps : (wants : Bool) → Steps rows (rules.stepped (close st d) set n wants) (steppedIn rows t ready wants (closingIn rows s d) (notesIn rows s t set d))
     unfolding steppedIn
     steps wants =
         let chosen = choose-refines rows u u-kept (U-le rows s S) wants in

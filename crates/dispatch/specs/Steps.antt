@@ -154,6 +154,10 @@ askedIn rows set = bitAnd set (known (rows .table .n))
 abbrev pub unreadyIn : State → ℕ
 unreadyIn s = bitOr (s .«open») (others (s .rested))
 
+-- the rows of a set that are there and ready
+abbrev pub readyIn : Rows → State → ℕ → ℕ
+readyIn rows s set = bitAnd (askedIn rows set) (others (unreadyIn s))
+
 -- what is noted, where the closing has made t of s
 abbrev pub notesIn : Rows → State → State → ℕ → Bool → Notes
 notesIn rows s t set d = record {
@@ -170,9 +174,9 @@ steppedIn rows s set soft closing notes =
       state = advanced rows (ranIn (releasedBy s set) runner);
     }
 
--- 1 to 4: the rows asked for that are ready are released
+-- 1 to 4
 unfoldable pub tickIn : Rows → State → ℕ → Bool → Bool → Ticked
 tickIn rows s set d soft =
     let closing = closingIn rows s d in
     let t = closedBy s closing in
-    steppedIn rows t (bitAnd (askedIn rows set) (others (unreadyIn t))) soft closing (notesIn rows s t set d)
+    steppedIn rows t (readyIn rows t set) soft closing (notesIn rows s t set d)

@@ -247,7 +247,7 @@ hard-in-time k w st set d wants K H b later h =
     in-time (hard-job k done) (namesRow k) (w .C) (deadline w) n 1 (replies st′ later)
     (follow-job later st′ k w n 1 (tick-kept st set d wants K) (rw (zero-add n) at (release-tick k w st set d wants K H b))) h
 
--- after closing, a rested row has no open job: the second half of refusal 14 is never met
+-- after closing, a rested row has no open job: the second half of note 14 is never met
 
 rested-slot : (dem : ℕ → ℕ) (s : Slot) → Safe dem false s → Good s → Unspent s → rested s ≡ true → s .job ≡ closed
 rested-slot dem s S G N e = go (s .job) refl

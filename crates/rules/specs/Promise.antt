@@ -1,4 +1,4 @@
--- The promises over calls, as types: demand 3; what is noted; done is told; true time; that the second half of 14 is never met. Assumes nothing.
+-- The promises over calls, as types: demand 3; what is noted; done is told; true time, of rows and of notes; that the second half of 14 is never met. Assumes nothing.
 use Prim.Native.Nat.{ℕ, _+_, _-_, _%_, _^_, _≤_, _<_, min}
 use mathlib.Core.Bool.{Bool, true, false, not, cond, _&&_}
 use mathlib.Core.List.{List, _∷_}

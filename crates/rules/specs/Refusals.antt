@@ -1,4 +1,4 @@
--- Document 01, "Numbers given instead of an answer": every refusal by its name, and its number; and those that a tick's answer notes instead (§3). Assumes nothing.
+-- Document 01, "Numbers given instead of an answer": every refusal by its name, and its number; and those that a tick's answer notes instead (document 02, §3). Assumes nothing.
 use Prim.Native.Nat.{ℕ}
 
 -- why something is refused

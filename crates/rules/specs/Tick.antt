@@ -1,4 +1,4 @@
--- Document 01, "The tick": 1 close, 2 release, 3 choose, 4 run; what 12, 13, 14 are about is noted and treated as clear (§3). Rows are counted from 0. Assumes nothing.
+-- Document 01, "The tick": 1 close, 2 release, 3 choose, 4 run; what 12, 13, 14 are about is noted and taken as clear (document 02, §3). Rows are counted from 0. Assumes nothing.
 use Prim.Native.Nat.{ℕ, suc, _-_, _/_, _%_, _^_, min}
 use mathlib.Core.Bool.{Bool, true, false, not, cond, _&&_, _||_}
 use mathlib.Core.List.{List, [], _∷_, map}
@@ -35,7 +35,7 @@ closedAs nothing = none
 closedAs (hard-job k how) = some how
 closedAs (firm-job t how) = some how
 
--- what a tick treats as clear: 12, release bits of rows above n; 13, the done flag; 14, release bits of rows not ready
+-- what a tick takes as clear: 12, release bits of rows above n; 13, the done flag; 14, release bits of rows not ready
 pub record Notes : Type 0 where
   pub unknown : ℕ
   pub none-ran : Bool
