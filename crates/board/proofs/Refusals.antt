@@ -1,4 +1,4 @@
--- What a refusal leaves, and that a block that holds a state is never refused as none. Assumes nothing.
+-- What a refusal leaves, what refuses a tick, and that a block that holds a state is never refused as none. Assumes nothing.
 use Prim.Native.Nat.{ℕ, _+_}
 use mathlib.Core.Bool.{Bool, true, false, cond}
 use mathlib.Core.List.{List}
@@ -25,7 +25,7 @@ use Rattle.block.specs.Tests.{decodedAs, decodedOf}
 use Rattle.block.proofs.Results.{block-promises}
 use Rattle.board.specs.Blocks.{giving, madeOn, offerBlock, offeredOn, planBlock, plannedOn, tableBlock, tickBlock, tickDecoded, tickedOn, writingOn}
 use Rattle.board.specs.Numbers.{refusedOffer, refusedPlan, refusedTable, refusedTick}
-use Rattle.board.specs.Promises.{Untouched}
+use Rattle.board.specs.Promises.{TickNumbers, Untouched}
 use Rattle.board.proofs.Standing.{StandsFor}
 
 -- a refusal leaves the block, or the output, as it was
@@ -84,6 +84,19 @@ table-refused b out = go (decodedOf b .ok) (write (rowsOf (decodedOf b .rows .ta
 
 pub untouched : Untouched
 untouched = record { plan-refused = plan-refused; tick-refused = tick-refused; offer-refused = offer-refused; table-refused = table-refused }
+
+-- a tick is refused by its flags, or by its block
+
+pub tick-numbers : TickNumbers
+unfolding tickBlock
+tick-numbers b set flags = go (otherFlag flags) (decodedOf b .ok)
+  where
+    go : (f ok : Bool)
+        → cond f (giving (refusedTick (number unknown-flag)) b) (cond ok (tickedOn (stepped b set flags) b) (giving (refusedTick (number not-image)) b)) .answer .refusal
+        ≡ cond f (number unknown-flag) (cond ok 0 (number not-image))
+    go true ok = refl
+    go false true = refl
+    go false false = refl
 
 -- a block that holds a state is not refused with 11
 

@@ -1,7 +1,7 @@
 -- What a kernel may rely on, over blocks: calls on the block that planning left, each given the block that the last one left. Assumes nothing.
 -- A block is a list of bytes, and everything is counted from the answers of the exported functions (specs/Blocks.antt).
 use Prim.Native.Nat.{ℕ, _%_, _^_, _≤_, _<_}
-use mathlib.Core.Bool.{true, false, not, _&&_}
+use mathlib.Core.Bool.{true, false, cond, not, _&&_}
 use mathlib.Core.List.{List, [], _∷_, _++_, map}
 use mathlib.Core.Logic.{_⊎_}
 use mathlib.Core.Option.{Option, none, some}
@@ -9,10 +9,10 @@ use mathlib.Core.Path.{_≡_}
 use lib.Dec.{leb}
 use lib.ListN.{drop, getElem?, length, take}
 use Rattle.rules.specs.Bound.{PlannedRow, unplanned}
-use Rattle.rules.specs.Calls.{AllShort, Call, Reply, Reported, Short, acceptances, answered, count, doneFlag, lastRelease, namesRow, namesTicket, offer-call, releases, replies, returns, softFlag, step, tick-call, ticks, took}
+use Rattle.rules.specs.Calls.{AllShort, Call, Reply, Reported, Short, acceptances, answered, count, doneFlag, lastRelease, namesRow, namesTicket, offer-call, otherFlag, releases, replies, returns, softFlag, step, tick-call, ticks, took}
 use Rattle.rules.specs.File.{Field, fieldBytes, planFields, read, read-as, scan, unread, whole}
 use Rattle.rules.specs.Promise.{NotesAre, restedBy}
-use Rattle.rules.specs.Refusals.{Refused, number, small-output}
+use Rattle.rules.specs.Refusals.{Refused, not-image, number, small-output, unknown-flag}
 use Rattle.rules.specs.Rows.{Row, deadline}
 use Rattle.rules.specs.Image.{isImage}
 use Rattle.rules.specs.Station.{Station, freshStation}
@@ -66,6 +66,11 @@ AnyBlock = (b : List ℕ) → Bytes b → decodedOf b .ok ≡ true
     → (st : Station) × (isImage st ≡ true) × ((cs : List Call) → AllShort cs → blockReplies b cs ≡ replies st cs)
     × ((set flags : ℕ) (x : Answer) → Short (tick-call set flags) → replyOn b (tick-call set flags) ≡ some (answered x)
     → NotesAre st set (doneFlag flags) (softFlag flags) (record { station = step st (tick-call set flags) .station; answer = x }))
+
+-- THE TICK, of any bytes: 20 by the flags alone, then 11 where decode refuses the bytes; nothing else refuses one
+abbrev pub TickNumbers : Type 0
+TickNumbers = (b : List ℕ) (set flags : ℕ)
+    → tickBlock b set flags .answer .refusal ≡ cond (otherFlag flags) (number unknown-flag) (cond (decodedOf b .ok) 0 (number not-image))
 
 -- accepted, or refused with 10, 22, 11 or 19
 abbrev pub TableNumber : ℕ → Type 0
