@@ -14,7 +14,7 @@ use Rattle.rules.specs.Tick.{choose, close, last_at, last_of, last_to, passed, p
 use Rattle.rules.specs.Offer.{Offered, accepted, new_firm, no_offer, offer}
 use Rattle.rules.specs.Calls.{Call, Short, done_flag, offer_call, soft_flag, step, tick_call, called_tick}
 use Rattle.rules.specs.Promise.{OnOffered, OnTick}
-use Rattle.rules.proofs.Calls.{after_offer, after_tick, on_call}
+use Rattle.rules.proofs.Calls.{after_offer_lem, after_tick_lem, on_call}
 use Rattle.rules.proofs.Close.{close_good, close_live, close_queue, close_unspent, without_all}
 use Rattle.rules.proofs.Demand.{passed_good}
 use Rattle.rules.proofs.Facts.{AllRuns, FirmsOk, Good, LastRan, Live, Paid, Tickets, Unspent}
@@ -99,5 +99,5 @@ offer_image st B d h16 I = go (offer st B d) same (offer_firms st B d I.firms) (
 -- every call keeps an image, refused ones too
 pub image_step : (st : Station) (c : Call) → Short c → Image st → Image (step st c).station
 image_step st (tick_call set flags) h I =
-    after_tick Image st (called_tick st set flags) I (on_call (λ st' x. Image st') st set flags (tick_image st set (done_flag flags) (soft_flag flags) I))
-image_step st (offer_call B d) h I = after_offer Image st (offer st B d) I (offer_image st B d h.0 I)
+    after_tick_lem Image st (called_tick st set flags) I (on_call (λ st' x. Image st') st set flags (tick_image st set (done_flag flags) (soft_flag flags) I))
+image_step st (offer_call B d) h I = after_offer_lem Image st (offer st B d) I (offer_image st B d h.0 I)

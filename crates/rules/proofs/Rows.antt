@@ -4,7 +4,7 @@ use mathlib.Core.Bool.{Bool, cond}
 use mathlib.Core.List.{List, [], ◌∷◌}
 use mathlib.Core.Logic.{inl, inr}
 use mathlib.Core.Option.{some}
-use mathlib.Core.Path.{refl, ◌∙◌, ◌≡◌}
+use mathlib.Core.Path.{refl, subst, sym, ◌∙◌, ◌≡◌}
 use lib.Dec.{eqb}
 use lib.ListN.{get_elem?}
 use native.Mathlib.Nat.{add-suc, add-zero, suc-add}
@@ -49,4 +49,4 @@ rows_after rs cs st q = after_keeps (λ st. rows_of st.slots ≡ rs) (rows_tick 
 pub row_holds : (r : Row) (k i : ℕ) (ss : List Slot) → get_elem? (rows_of ss) k ≡ some r → Holds (λ s. s.row ≡ r) (i + k) i ss
 row_holds r k i [] e = none_some e
 row_holds r zero i (s ∷ ss) e = inl (rw add-zero, some_eq e)
-row_holds r (suc k) i (s ∷ ss) e = inr (rw (add-suc i k, ← suc-add i k) (row_holds r k (suc i) ss e))
+row_holds r (suc k) i (s ∷ ss) e = inr (subst (λ (j : ℕ). Holds (λ s. s.row ≡ r) j (suc i) ss) (suc-add i k ∙ sym (add-suc i k)) (row_holds r k (suc i) ss e))

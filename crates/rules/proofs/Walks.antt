@@ -4,7 +4,7 @@ use mathlib.Core.Bool.{Bool, false≢true, true, ◌&&◌}
 use mathlib.Core.List.{List, [], map, ◌++◌, ◌∷◌}
 use mathlib.Core.Logic.{inl, inr, ◌↔◌, ◌⊎◌}
 use mathlib.Core.Option.{some}
-use mathlib.Core.Path.{ap, refl, sym, ◌≡◌}
+use mathlib.Core.Path.{ap, refl, subst, sym, ◌≡◌, ◌∙◌}
 use borrow.Author.Tests.{eq-eqb, eqb-true}
 use lib.Dec.{eqb}
 use lib.ListN.{get_elem?, length}
@@ -91,7 +91,7 @@ module _ {A : Type 0} where
   pub at_holds : (k i : ℕ) (l : List A) (a : A) → get_elem? l k ≡ some a → Holds (λ b. b ≡ a) (i + k) i l
   at_holds k i [] a e = none_some e
   at_holds zero i (b ∷ l) a e = inl (rw add-zero, some_eq e)
-  at_holds (suc k) i (b ∷ l) a e = inr (rw (add-suc i k, ← suc-add i k) (at_holds k (suc i) l a e))
+  at_holds (suc k) i (b ∷ l) a e = inr (subst (λ (j : ℕ). Holds (λ b. b ≡ a) j (suc i) l) (suc-add i k ∙ sym (add-suc i k)) (at_holds k (suc i) l a e))
 
   -- there is one at each position below the length, and at no other
 
