@@ -1,17 +1,19 @@
 // The answer to a tick: who runs, what closed and what was noted; and who and what in numbers. Rows are counted from 0 in the answer, from 1 in the numbers.
+#![tactic(auto)]
+
 ghost use Rattle.std.specs.Prelude.{◌≡◌, ◌<◌};
 ghost use Rattle.answer.specs.Below.{ClosingBelow, RunnerBelow};
 ghost use Rattle.answer.specs.Numbers.{band_number, closing_numbers, firm_closing, flag_number, hard_closing, row_number, runner_numbers};
 
 // The band in which a hard row runs: upper where its job is promoted.
-#[derive(Drop)]
+#[derive(Clone, Copy)]
 pub enum Band {
     Upper,
     Lower,
 }
 
 // Who runs: a hard row with its band, a firm ticket, soft, or idle.
-#[derive(Drop)]
+#[derive(Clone, Copy)]
 pub enum Runner {
     Hard(usize, Band),
     Firm(u32),
@@ -20,7 +22,7 @@ pub enum Runner {
 }
 
 // What closed: nothing, or a hard row or a firm ticket, as done or as spent.
-#[derive(Drop)]
+#[derive(Clone, Copy)]
 pub enum Closing {
     Nothing,
     HardDone(usize),

@@ -1,4 +1,6 @@
 // The 512-byte block: decoded, where it is the image of a state, and written. docs/block.md has the layout.
+#![tactic(auto)]
+
 mod places; // places.rt: where each field stands, by name
 mod words; // words.rt: little-endian numbers, and arrays of them, read and put at a place
 mod checks; // checks.rt: is it the image of a state

@@ -1,4 +1,6 @@
 // What a C kernel calls: planning, the tick, the upload offer and the table read back, on numbers and a lent block of 512 bytes.
+#![tactic(auto)]
+
 ghost use Rattle.std.specs.Prelude.{◌≡◌};
 ghost use Rattle.rules.specs.Calls.{done_flag, soft_flag};
 ghost use Rattle.answer.specs.Below.{AnswerBelow};

@@ -1,4 +1,6 @@
 // The dispatcher in memory: the tick.
+#![tactic(auto)]
+
 mod sets; // sets.rt: sets of rows, and the loops over sixteen rows
 mod steps; // steps.rt: close, release, choose, run
 

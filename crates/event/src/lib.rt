@@ -1,4 +1,6 @@
 // The event fields of document 01: one event read at a place of the lent events; and a thin reader that yields one at a time.
+#![tactic(auto)]
+
 mod reader;
 
 ghost use Rattle.std.specs.Prelude.{◌≡◌, ◌+◌, ◌^◌, ◌<◌, ◌≤◌, length, drop};

@@ -1,4 +1,6 @@
 // The upload offer in memory: the checks 15 to 18, and the queue with one more job.
+#![tactic(auto)]
+
 mod room; // room.rt: what the hard rows claim of the window, and the budgets still unrun
 
 ghost use Rattle.std.specs.Prelude.{◌≡◌, ◌<◌};

@@ -1,4 +1,6 @@
 // Reads a table from standard input and prints a line a row: the row, C, D, T, R, U and the rounds; or why it is refused.
+#![tactic(auto)]
+
 ghost use Rattle.std.specs.Prelude.{◌<◌, ◌≤◌};
 
 use table::{FileRefusal, FileVerdict, Plan, Table};

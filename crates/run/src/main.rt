@@ -1,4 +1,6 @@
 // Reads table.bin and events.bin, each empty where it can't be opened, and prints a line an event: the dispatcher's answer, or why it is refused; after a tick's line one for each note.
+#![tactic(auto)]
+
 mod lines;
 
 ghost use Rattle.std.specs.Prelude.{◌≡◌};

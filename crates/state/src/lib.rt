@@ -1,4 +1,6 @@
 // The state in memory: what a tick never changes, what ticks and offers change, and both of a fresh table. docs/performance.md says why in this shape.
+#![tactic(auto)]
+
 mod fresh; // fresh.rt: a fresh dispatcher
 mod sets; // sets.rt: sets of rows as numbers, and the age of a stamp
 
@@ -7,14 +9,14 @@ pub use sets::{has, known_rows, since};
 use table::Table;
 
 // What a tick never changes: the table and its rows' promotion times. Entries of rows that are not there are 0.
-#[derive(Drop)]
+#[derive(Clone, Copy)]
 pub struct Rows {
     pub table: Table,
     pub u: [u16; 16],
 }
 
 // What ticks and offers change. open, rested: sets of rows. last: a row below 16, 16 the first firm job, 17 nobody.
-#[derive(Drop)]
+#[derive(Clone, Copy)]
 pub struct State {
     pub clock: u32,
     pub next: u32,

@@ -1,4 +1,6 @@
 // The hard table of document 01: read from its file, checked, planned, and written to a file again.
+#![tactic(auto)]
+
 mod bounds; // bounds.rt: the response bound of a row, the plan of a table
 mod faults; // faults.rt: the checks 6 to 9 and 21
 mod form; // form.rt: what a file looks like
@@ -14,7 +16,7 @@ ghost use Rattle.table.specs.Answers.{planning_of, plan_or_refuse, refused_read,
 use scan::FileRows;
 
 // A table in memory: n rows, row 1 at index 0. What read_table gives has 0 at n and above.
-#[derive(Drop)]
+#[derive(Clone, Copy)]
 pub struct Table {
     pub n: usize,
     pub c: [u16; 16],
@@ -25,7 +27,7 @@ pub struct Table {
 }
 
 // The plan of a table: each row's response bound R, its promotion time U and its rounds; 0 where there is no row.
-#[derive(Drop)]
+#[derive(Clone, Copy)]
 pub struct Plan {
     pub r: [u16; 16],
     pub u: [u16; 16],

@@ -42,7 +42,7 @@ pub struct FileRow {
 }
 
 // The rows of a file, and the tags of their fields; 0 where there is no row.
-#[derive(Drop)]
+#[derive(Clone, Copy)]
 pub struct FileRows {
     pub table: Table,
     pub tag: [u8; 16],

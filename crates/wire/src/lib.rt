@@ -1,4 +1,6 @@
 // Lent byte slices: numbers in them, big-endian, read and put at a place; the check of a field; and the part of a file that a refusal shows.
+#![tactic(auto)]
+
 mod field; // field.rt: tag, length and value, and what is wrong with them
 mod view; // view.rt: the part that a refusal shows
 

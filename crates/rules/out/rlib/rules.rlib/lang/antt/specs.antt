@@ -1,0 +1,17 @@
+pub mod Lists
+pub mod Refusals
+pub mod Rows
+pub mod Bound
+pub mod Fields
+pub mod File
+pub mod Tables
+pub mod Station
+pub mod Tick
+pub mod Offer
+pub mod Calls
+pub mod Events
+pub mod Image
+pub mod Promise
+pub mod OneResult
+pub mod Figures
+pub mod Examples
