@@ -1,0 +1,8 @@
+-- `writing::put_marks` meets its contract: two bytes, one after the other. Assumes nothing.
+use Rattle.std.proofs.Common.{refl}
+use Rattle.block.proofs.Arrays.{put_one, put_then}
+use Rattle.block.proofs.writing.put_marks.Goals as goal
+
+pub returns : goal.returns
+returns c =
+    put_then (put_one c.put_u8.ensures) refl (put_one c.put_u8-2.ensures)
