@@ -6,10 +6,10 @@ use Rattle.offer.specs.Answers.{offer_number}
 use Rattle.board.specs.Blocks.{offer_block, offered_on}
 use Rattle.board.specs.Numbers.{refused_offer}
 use Rattle.board.proofs.Ways.{halves, no_offer_way, offered_way}
-use Rattle.board.proofs.heechstjer_offer.Lts as lts
 use Rattle.board.proofs.heechstjer_offer.Goals as goal
+use Rattle.board.proofs.heechstjer_offer.Goals.{After-offer-made}
 
-way : (c : lts.After-offer-made) (o : Offered) → c.offer-made.result.offered ≡ o
+way : (c : After-offer-made) (o : Offered) → c.offer-made.result.offered ≡ o
     → offer_block c.args.block.now c.args.budget c.args.deadline ≡ offered_on o c.offer-made.result.state c.args.block.now
 way c o e =
     let a = c.args in

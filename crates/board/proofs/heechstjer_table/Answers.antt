@@ -5,10 +5,10 @@ use Rattle.table.specs.declared.Written.TheVariants.{Length, Refused}
 use Rattle.board.specs.Blocks.{table_block}
 use Rattle.board.specs.Numbers.{written_table}
 use Rattle.board.proofs.Ways.{halves, no_table_way, written_way}
-use Rattle.board.proofs.heechstjer_table.Lts as lts
 use Rattle.board.proofs.heechstjer_table.Goals as goal
+use Rattle.board.proofs.heechstjer_table.Goals.{After-write_table}
 
-way : (c : lts.After-write_table) (w : Written) → c.write_table.result ≡ w
+way : (c : After-write_table) (w : Written) → c.write_table.result ≡ w
     → let a = c.args in
     (written_table w ≡ (table_block a.block.now a.out.now).answer) × (c.write_table.new.out.0 ≡ (table_block a.block.now a.out.now).block)
 way c w e =

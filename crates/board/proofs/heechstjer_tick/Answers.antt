@@ -3,10 +3,10 @@ use mathlib.Core.Path.{◌≡◌, ◌∙◌}
 use Rattle.dispatch.proofs.NamedRows.{answer_below}
 use Rattle.board.specs.Blocks.{tick_block, ticked_on}
 use Rattle.board.proofs.Ways.{flag_way, halves, no_image_way, ticked_way}
-use Rattle.board.proofs.heechstjer_tick.Lts as lts
 use Rattle.board.proofs.heechstjer_tick.Goals as goal
+use Rattle.board.proofs.heechstjer_tick.Goals.{After-tick-ticked}
 
-way : (c : lts.After-tick-ticked) → let a = c.args in
+way : (c : After-tick-ticked) → let a = c.args in
     tick_block a.block.now a.set a.flags ≡ ticked_on c.tick-ticked.result a.block.now
 way c =
     let a = c.args in

@@ -9,32 +9,32 @@ use Rattle.rules.specs.Fields.{byte}
 use Rattle.wire.specs.Field.{length_of}
 use Rattle.event.specs.Answers.{event_of}
 use Rattle.event.proofs.Found.{bad_read, tick_read, offer_read}
-use Rattle.event.proofs.first_event.Lts as lts
 use Rattle.event.proofs.first_event.Goals as goal
+use Rattle.event.proofs.first_event.Goals.{After-check_field, Else-tag-eq-TICK_TAG, Start, Then-tag-eq-TICK_TAG}
 
-abbrev start : (c : lts.After-check_field) → lts.Start
+abbrev start : (c : After-check_field) → Start
 start c = c.before.before.before.before
 
-abbrev bytes : (c : lts.After-check_field) → List ℕ
+abbrev bytes : (c : After-check_field) → List ℕ
 bytes c = (start c).args.s.now
 
-known : (c : lts.After-check_field) → length_of c.value_length.result ≡ event_length (byte (bytes c) 0)
+known : (c : After-check_field) → length_of c.value_length.result ≡ event_length (byte (bytes c) 0)
 known c = c.value_length.ensures ∙ ap event_length c.tag_of-tag.ensures
 
 -- a whole field with a tick's tag, and one with an offer's
 
-abbrev whole : (c : lts.Then-tag-eq-TICK_TAG) → lts.After-check_field
+abbrev whole : (c : Then-tag-eq-TICK_TAG) → After-check_field
 whole c = c.before.before.before.before
 
-tick-field : (c : lts.Then-tag-eq-TICK_TAG) → (6 ≤ length (bytes (whole c))) × (c.in-Whole.size ≡ 6) × (read_event (bytes (whole c)) ≡ tick_event (bytes (whole c)))
+tick-field : (c : Then-tag-eq-TICK_TAG) → (6 ≤ length (bytes (whole c))) × (c.in-Whole.size ≡ 6) × (read_event (bytes (whole c)) ≡ tick_event (bytes (whole c)))
 tick-field c =
     let check = whole c in
     tick_read (bytes check) (start check).pre.0 _ (known check) (sym check.check_field.ensures ∙ c.in-Whole.is) (sym check.tag_of-tag.ensures ∙ c.if-tag-eq-TICK_TAG.true)
 
-abbrev other : (c : lts.Else-tag-eq-TICK_TAG) → lts.After-check_field
+abbrev other : (c : Else-tag-eq-TICK_TAG) → After-check_field
 other c = c.before.before.before.before
 
-offer-field : (c : lts.Else-tag-eq-TICK_TAG) → (7 ≤ length (bytes (other c))) × (c.in-Whole.size ≡ 7) × (read_event (bytes (other c)) ≡ offer_event (bytes (other c)))
+offer-field : (c : Else-tag-eq-TICK_TAG) → (7 ≤ length (bytes (other c))) × (c.in-Whole.size ≡ 7) × (read_event (bytes (other c)) ≡ offer_event (bytes (other c)))
 offer-field c =
     let check = other c in
     offer_read (bytes check) (start check).pre.0 _ (known check) (sym check.check_field.ensures ∙ c.in-Whole.is) (λ e. c.if-tag-eq-TICK_TAG.false (check.tag_of-tag.ensures ∙ e))

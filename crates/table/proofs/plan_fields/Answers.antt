@@ -12,10 +12,10 @@ use Rattle.table.proofs.Places.{length_indexed}
 use Rattle.table.proofs.Checks.{none_sound}
 use Rattle.table.proofs.Files.{rows_fields}
 use Rattle.table.proofs.Verdicts.{fault_passed, plan_passed, plan_failed}
-use Rattle.table.proofs.plan_fields.Lts as lts
 use Rattle.table.proofs.plan_fields.Goals as goal
+use Rattle.table.proofs.plan_fields.Goals.{After-rows_check}
 
-checked : (c : lts.After-rows_check) → let fs = fields_of c.args.rows in c.rows_check.result ≡ checked_of (fields_fault (length fs) [] 0 fs)
+checked : (c : After-rows_check) → let fs = fields_of c.args.rows in c.rows_check.result ≡ checked_of (fields_fault (length fs) [] 0 fs)
 checked c =
     let rows = c.args.rows in
     c.rows_check.ensures ∙ ap (λ (n : ℕ). checked_of (fields_fault n [] 0 (fields_of rows))) (sym (length_indexed (field_at rows) 0 rows.table.n))

@@ -15,22 +15,22 @@ use Rattle.table.specs.declared.scan.FileRows.{FileRows}
 use Rattle.table.proofs.Places.{length_indexed}
 use Rattle.table.proofs.Files.{file_fields}
 use Rattle.table.proofs.Verdicts.{failed_row, failed_read, passed_read}
-use Rattle.table.proofs.read_rows.Lts as lts
 use Rattle.table.proofs.read_rows.Goals as goal
+use Rattle.table.proofs.read_rows.Goals.{After-plan_fields-planning, In-Failed, Start}
 
-abbrev fields : lts.Start → List Field
+abbrev fields : Start → List Field
 fields c = fields_in c.args.s.now c.args.n
 
-count : (c : lts.Start) → length (fields c) ≡ c.args.n
+count : (c : Start) → length (fields c) ≡ c.args.n
 count c = length_indexed (λ i. field_of (drop (start_of c.args.s.now i) c.args.s.now)) 0 c.args.n
 
-planned : (c : lts.After-plan_fields-planning) → c.plan_fields-planning.result ≡ planning_of (plan_fields (fields c.before.before.before))
+planned : (c : After-plan_fields-planning) → c.plan_fields-planning.result ≡ planning_of (plan_fields (fields c.before.before.before))
 planned c =
     c.plan_fields-planning.ensures
     ∙ ap (λ (rows : FileRows). planning_of (plan_fields (fields_of rows))) c.rows_at-rows.ensures
     ∙ ap (λ (fs : List Field). planning_of (plan_fields fs)) (file_fields (fields c.before.before.before) (omega (arith, count c.before.before.before, c.requires.0)))
 
-failed : (c : lts.In-Failed-2) → (planning_of (plan_fields (fields c.before.before.before.before.before))).verdict ≡ Checked.Failed c.in-Failed.number c.in-Failed.row
+failed : (c : In-Failed) → (planning_of (plan_fields (fields c.before.before.before.before.before))).verdict ≡ Checked.Failed c.in-Failed.number c.in-Failed.row
 failed c = sym (ap (λ (p : Planning). p.verdict) (planned c.before.before)) ∙ c.in-Failed.is
 
 pub plan_fields-planning-requires : goal.plan_fields-planning-requires

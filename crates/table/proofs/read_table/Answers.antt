@@ -6,10 +6,10 @@ use Rattle.rules.specs.File.{whole, Scan, scan, read_scan, read}
 use Rattle.table.specs.Walk.{RowFields, fields_in}
 use Rattle.table.specs.Answers.{file_read, reading_of, scan_row}
 use Rattle.table.proofs.Files.{scan_whole, scan_broken}
-use Rattle.table.proofs.read_table.Lts as lts
 use Rattle.table.proofs.read_table.Goals as goal
+use Rattle.table.proofs.read_table.Goals.{In-Whole}
 
-file : (c : lts.In-Whole-2) → let s = c.args.s.now in (c.in-Whole.n ≤ 16) × RowFields s c.in-Whole.n × (scan 16 0 s ≡ whole (fields_in s c.in-Whole.n))
+file : (c : In-Whole) → let s = c.args.s.now in (c.in-Whole.n ≤ 16) × RowFields s c.in-Whole.n × (scan 16 0 s ≡ whole (fields_in s c.in-Whole.n))
 file c = scan_whole _ _ (sym c.scan_fields.ensures ∙ c.in-Whole.is)
 
 pub read_rows-requires : goal.read_rows-requires

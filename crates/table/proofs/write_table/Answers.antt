@@ -7,10 +7,10 @@ use Rattle.table.specs.Answers.{planning_of, plan_or_refuse, written_of, output_
 use Rattle.table.specs.declared.Planning.{Planning}
 use Rattle.table.proofs.Places.{length_indexed}
 use Rattle.table.proofs.Verdicts.{write_plans, failed_written, passed_written, passed_few}
-use Rattle.table.proofs.write_table.Lts as lts
 use Rattle.table.proofs.write_table.Goals as goal
+use Rattle.table.proofs.write_table.Goals.{After-plan_table-planning}
 
-verdict : (c : lts.After-plan_table-planning) → c.plan_table-planning.result.verdict ≡ (planning_of (plan_or_refuse (rows_of c.args.tb))).verdict
+verdict : (c : After-plan_table-planning) → c.plan_table-planning.result.verdict ≡ (planning_of (plan_or_refuse (rows_of c.args.tb))).verdict
 verdict c = ap (λ (p : Planning). p.verdict) c.plan_table-planning.ensures
 
 pub put_table-requires : goal.put_table-requires

@@ -10,7 +10,7 @@ loop-i-init c = rw c.lowest-i.ensures (low_first c.args.rank c.args.set no_best,
 pub loop-i-preserved : goal.loop-i-preserved
 loop-i-preserved c = let a = c.args in
     rw (c.next-i.ensures, c.better_of-best.ensures)
-    (c.loop-i.invariant.0 ∙ low_next a.t1 a.set c.loop-i.i c.loop-i.best (search rules) (c.loop-i.invariant.1 (search rules)), next_set a.set c.loop-i.i)
+    (c.loop-i.invariant.0 ∙ low_next a.rank a.set c.loop-i.i c.loop-i.best (search rules) (c.loop-i.invariant.1 (search rules)), next_set a.set c.loop-i.i)
 
 pub returns : goal.returns
-returns c = let a = c.args in sym (c.loop-i.invariant.0 ∙ fold_done (low_at a.t1 a.set) 16 c.loop-i.i c.loop-i.best (search rules))
+returns c = let a = c.args in sym (c.loop-i.invariant.0 ∙ fold_done (low_at a.rank a.set) 16 c.loop-i.i c.loop-i.best (search rules))

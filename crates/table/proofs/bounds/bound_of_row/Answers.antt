@@ -8,21 +8,21 @@ use Rattle.rules.specs.Bound.{f}
 use Rattle.table.specs.Memory.{table_row, above_of}
 use Rattle.table.specs.Answers.{bound_of}
 use Rattle.table.proofs.Recurrence.{demand_mono, turn_start, turn_passes, turn_repeats, turn_goes_on}
-use Rattle.table.proofs.bounds.bound_of_row.Lts as lts
 use Rattle.table.proofs.bounds.bound_of_row.Goals as goal
+use Rattle.table.proofs.bounds.bound_of_row.Goals.{After-demand, At-loop-w}
 
-row : (c : lts.At-loop-w) → RowOk (table_row c.args.tb c.args.i)
+row : (c : At-loop-w) → RowOk (table_row c.args.tb c.args.i)
 row c = c.requires.1 c.args.i (omega arith)
 
 -- v is f of w
 
-value : (c : lts.After-demand) → c.wide-c.result + c.demand.result ≡ f (above_of c.args.tb c.args.i) (table_row c.args.tb c.args.i) c.loop-w.w
+value : (c : After-demand) → c.wide-c.result + c.demand.result ≡ f (above_of c.args.tb c.args.i) (table_row c.args.tb c.args.i) c.loop-w.w
 value c = cc
 
 pub loop-w-init : goal.loop-w-init
 loop-w-init c =
     let a = c.args in
-    (omega arith, omega (arith, c.wide-c.ensures.0), turn_start (above_of a.t1 a.i) (table_row a.t1 a.i) c.wide-c.result c.wide-c.ensures.0)
+    (omega arith, omega (arith, c.wide-c.ensures.0), turn_start (above_of a.tb a.i) (table_row a.tb a.i) c.wide-c.result c.wide-c.ensures.0)
 
 pub overflow_add-rounds : goal.overflow_add-rounds
 overflow_add-rounds c = let r = row c.before in omega (arith, c.wide-c.ensures.0)
@@ -39,8 +39,8 @@ loop-w-preserved c =
     let d = c.wide-d.ensures.0 in
     let e = value c.before in (
       omega arith,
-      rw e (add-le-add (le_refl _) (demand_mono a.t1 a.i l.w _ l.invariant.1 (λ j h. c.requires.1 j (omega arith)))),
-      l.invariant.2 ∙ turn_goes_on (above_of a.t1 a.i) (table_row a.t1 a.i) l.rounds l.w _ (omega arith) (omega arith) e c.if-v-w.false,
+      rw e (add-le-add (le_refl _) (demand_mono a.tb a.i l.w _ l.invariant.1 (λ j h. c.requires.1 j (omega arith)))),
+      l.invariant.2 ∙ turn_goes_on (above_of a.tb a.i) (table_row a.tb a.i) l.rounds l.w _ (omega arith) (omega arith) e c.if-v-w.false,
     )
 
 pub returns-then-d-w : goal.returns-then-d-w
@@ -48,7 +48,7 @@ returns-then-d-w c =
     let l = c.loop-w in
     let a = c.args in
     let d = c.wide-d.ensures.0 in
-    sym (ap bound_of (l.invariant.2 ∙ turn_passes (above_of a.t1 a.i) (table_row a.t1 a.i) l.rounds l.w (omega arith)))
+    sym (ap bound_of (l.invariant.2 ∙ turn_passes (above_of a.tb a.i) (table_row a.tb a.i) l.rounds l.w (omega arith)))
 
 pub returns-then-v-w : goal.returns-then-v-w
 returns-then-v-w c =
@@ -56,4 +56,4 @@ returns-then-v-w c =
     let a = c.args in
     let w = c.wide-c.ensures.0 in
     let d = c.wide-d.ensures.0 in
-    sym (ap bound_of (l.invariant.2 ∙ turn_repeats (above_of a.t1 a.i) (table_row a.t1 a.i) l.rounds l.w _ (omega arith) (omega arith) (value c.before) c.if-v-w.true))
+    sym (ap bound_of (l.invariant.2 ∙ turn_repeats (above_of a.tb a.i) (table_row a.tb a.i) l.rounds l.w _ (omega arith) (omega arith) (value c.before) c.if-v-w.true))

@@ -4,16 +4,16 @@ use mathlib.Core.Path.{◌≡◌, ap, ◌∙◌}
 use native.Mathlib.Omega.{arith}
 use Rattle.rules.specs.Bound.{ceil}
 use Rattle.table.proofs.Recurrence.{asked, asked_above, asked_next, term_le}
-use Rattle.table.proofs.bounds.demand.Lts as lts
 use Rattle.table.proofs.bounds.demand.Goals as goal
+use Rattle.table.proofs.bounds.demand.Goals.{After-wide, After-wide-period}
 
-positive : (c : lts.After-wide-period) → 1 ≤ c.wide-period.result
+positive : (c : After-wide-period) → 1 ≤ c.wide-period.result
 positive c =
     let l = c.loop-j in
     let ok = c.requires.2 l.j (omega arith) in
     rw c.wide-period.ensures.0 (omega arith)
 
-term : (c : lts.After-wide) → ceil c.args.w c.wide-period.result * c.wide.result ≤ 65535 * 65535
+term : (c : After-wide) → ceil c.args.w c.wide-period.result * c.wide.result ≤ 65535 * 65535
 term c = term_le _ _ _ c.requires.1 (positive c.before) c.wide.ensures.1
 
 -- GONE div-sum : tie.Need-nonzero-div-sum invariant-loop decreases-loop

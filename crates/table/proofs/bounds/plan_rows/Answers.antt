@@ -6,12 +6,12 @@ use borrow.Author.Rules.{rules}
 use Rattle.rules.specs.Bound.{bound, response}
 use Rattle.table.specs.Memory.{table_row, above_of}
 use Rattle.table.proofs.Plans.{bound_found, bound_passes, none_planned, one_more_planned, bound_fails, margin_fails, all_planned}
-use Rattle.table.proofs.bounds.plan_rows.Lts as lts
 use Rattle.table.proofs.bounds.plan_rows.Goals as goal
+use Rattle.table.proofs.bounds.plan_rows.Goals.{In-Found}
 
 -- the bound that was found, as the rules have it
 
-found : (c : lts.In-Found-2) → response (above_of c.args.tb c.loop-i.i) (table_row c.args.tb c.loop-i.i) ≡ bound c.in-Found.w c.in-Found.k
+found : (c : In-Found) → response (above_of c.args.tb c.loop-i.i) (table_row c.args.tb c.loop-i.i) ≡ bound c.in-Found.w c.in-Found.k
 found c = bound_found _ (sym c.in-Found.is ∙ c.bound_of_row.ensures)
 
 pub loop-i-init : goal.loop-i-init

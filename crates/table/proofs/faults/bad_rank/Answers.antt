@@ -8,11 +8,11 @@ use Rattle.table.proofs.faults.bad_rank.Goals as goal
 pub returns-then-tb-wide : goal.returns-then-tb-wide
 returns-then-tb-wide c =
     let a = c.args in
-    let h : a.t1.n ≤ get_or a.t1.rank a.i 0 = omega (arith, c.wide.ensures) in
+    let h : a.tb.n ≤ get_or a.tb.rank a.i 0 = omega (arith, c.wide.ensures) in
     simp (le-leb _ _ h)
 
 pub returns-else-tb-wide : goal.returns-else-tb-wide
 returns-else-tb-wide c =
     let a = c.args in
-    let h : get_or a.t1.rank a.i 0 < a.t1.n = omega (arith, c.wide.ensures) in
+    let h : get_or a.tb.rank a.i 0 < a.tb.n = omega (arith, c.wide.ensures) in
     simp (lt-leb _ _ h) c.rank_used.ensures

@@ -10,15 +10,15 @@ use Rattle.table.specs.Memory.{above_of, field_at, table_row}
 use Rattle.table.specs.Answers.{checked_of, field_checked}
 use Rattle.table.specs.declared.Checked.{Checked}
 use Rattle.table.proofs.Checks.{zero_asked, zero_not_asked}
-use Rattle.table.proofs.faults.field_check.Lts as lts
 use Rattle.table.proofs.faults.field_check.Goals as goal
+use Rattle.table.proofs.faults.field_check.Goals.{In-Passed}
 
-abbrev zeroFound : lts.In-Passed → Bool → Checked
+abbrev zeroFound : In-Passed → Bool → Checked
 zeroFound c zero_margin_lem = checked_of (map (λ why. at_row why c.args.i) (cond zero_margin_lem (some M_zero) none))
 
 -- 6 to 9 let it pass: 21 is asked
 
-asked : (c : lts.In-Passed) → let a = c.args in field_checked a.t1 a.i ≡ zeroFound c (zero_margin (field_at a.t1 a.i))
+asked : (c : In-Passed) → let a = c.args in field_checked a.rows a.i ≡ zeroFound c (zero_margin (field_at a.rows a.i))
 asked c =
     let rows = c.args.rows in
     let i = c.args.i in

@@ -9,15 +9,15 @@ use Rattle.rules.specs.File.{is_row, table_length}
 use Rattle.wire.specs.Field.{field_check}
 use Rattle.table.specs.Answers.{is_row_tag}
 use Rattle.table.proofs.Fields.{bad_found, row_found, end_found}
-use Rattle.table.proofs.scan.field_of.Lts as lts
 use Rattle.table.proofs.scan.field_of.Goals as goal
+use Rattle.table.proofs.scan.field_of.Goals.{After-check_field, After-is_row-row}
 
-row : (c : lts.After-is_row-row) → c.is_row-row.result ≡ is_row c.args.s.now
+row : (c : After-is_row-row) → c.is_row-row.result ≡ is_row c.args.s.now
 row c = c.is_row-row.ensures ∙ ap is_row_tag c.tag_of-tag.ensures
 
 -- the check of the field
 
-checked : (c : lts.After-check_field) → let a = c.args in field_check (table_length (byte a.s.now 0)) (is_row a.s.now && a.full) a.s.now ≡ c.check_field.result
+checked : (c : After-check_field) → let a = c.args in field_check (table_length (byte a.s.now 0)) (is_row a.s.now && a.full) a.s.now ≡ c.check_field.result
 checked c =
     let a = c.args in
     sym

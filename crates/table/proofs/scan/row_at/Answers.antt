@@ -8,10 +8,10 @@ use lib.Seq.{get_or-drop}
 use Rattle.table.specs.Walk.{tag_at}
 use Rattle.table.proofs.Rows.{word_drop}
 use Rattle.table.proofs.Walked.{size_within, tag_at_lem}
-use Rattle.table.proofs.scan.row_at.Lts as lts
 use Rattle.table.proofs.scan.row_at.Goals as goal
+use Rattle.table.proofs.scan.row_at.Goals.{Start}
 
-ten-stand : (c : lts.Start) → c.args.at + 10 ≤ length c.args.s.now
+ten-stand : (c : Start) → c.args.at + 10 ≤ length c.args.s.now
 ten-stand c = omega (arith, c.requires, (size_within (tag_at c.args.s.now c.args.at)).0)
 
 pub bounds-s-at : goal.bounds-s-at

@@ -8,12 +8,12 @@ use lib.Seq.{take_all}
 use borrow.Author.Rules.{rules}
 use Rattle.table.specs.Answers.{next_field}
 use Rattle.table.proofs.Fields.{after_zero, row_fits, end_fits, row_turn, bad_turn, end_turn, after_end_turn}
-use Rattle.table.proofs.scan.scan_fields.Lts as lts
 use Rattle.table.proofs.scan.scan_fields.Goals as goal
+use Rattle.table.proofs.scan.scan_fields.Goals.{After-field_of}
 
 -- the field that was read, as the rules have it
 
-field : (c : lts.After-field_of) → next_field (eqb c.loop-size.n 16) (drop c.loop-size.at c.args.s.now) ≡ c.field_of.result
+field : (c : After-field_of) → next_field (eqb c.loop-size.n 16) (drop c.loop-size.at c.args.s.now) ≡ c.field_of.result
 field c =
     let l = c.loop-size in
     let s = c.args.s.now in

@@ -15,18 +15,18 @@ put_header-requires c = omega (arith, c.requires, (size_within c.args.m).0)
 
 pub put_numbers-requires : goal.put_numbers-requires
 put_numbers-requires c =
-    omega (arith, c.requires, (size_within c.args.m).0, c.put_header.auto.0)
+    omega (arith, c.requires, (size_within c.args.m).0, c.put_header.auto.out)
 
 pub put_header-requires-else-m-eq0 : goal.put_header-requires-else-m-eq0
 put_header-requires-else-m-eq0 c = omega (arith, c.requires, (size_within c.args.m).0)
 
 pub put_numbers-requires-else-m-eq0 : goal.put_numbers-requires-else-m-eq0
 put_numbers-requires-else-m-eq0 c =
-    omega (arith, c.requires, (size_within c.args.m).0, c.put_header-else-m-eq0.auto.0)
+    omega (arith, c.requires, (size_within c.args.m).0, c.put_header-else-m-eq0.auto.out)
 
 pub put_u16-requires : goal.put_u16-requires
 put_u16-requires c =
-    omega (arith, c.requires, size_with c.args.m c.if-m-eq0.false, c.put_header-else-m-eq0.auto.0, c.put_numbers-else-m-eq0.auto.0)
+    omega (arith, c.requires, size_with c.args.m c.if-m-eq0.false, c.put_header-else-m-eq0.auto.out, c.put_numbers-else-m-eq0.auto.out)
 
 pub returns-then-m-eq0 : goal.returns-then-m-eq0
 returns-then-m-eq0 c =

@@ -26,19 +26,19 @@ pub loop-i-preserved : goal.loop-i-preserved
 loop-i-preserved c =
     let l = c.loop-i in
     let a = c.args in
-    let rows = rows_bytes (indexed (table_row a.t1) 0 l.i) in (
+    let rows = rows_bytes (indexed (table_row a.tb) 0 l.i) in (
       omega arith,
-      c.put_row.auto.0 ∙ l.invariant.1,
-      omega (arith, l.invariant.2, c.row_size-at.ensures, length_more (table_row a.t1) l.i),
-      stored_then rows (row_bytes (table_row a.t1 l.i)) a.out.now 0 l.at l.invariant.3 (omega (arith, l.invariant.2)) c.put_row.ensures
-          ∙ ap (sets a.out.now 0) (bytes_more (table_row a.t1) l.i),
+      c.put_row.auto.out ∙ l.invariant.1,
+      omega (arith, l.invariant.2, c.row_size-at.ensures, length_more (table_row a.tb) l.i),
+      stored_then rows (row_bytes (table_row a.tb l.i)) a.out.now 0 l.at l.invariant.3 (omega (arith, l.invariant.2)) c.put_row.ensures
+          ∙ ap (sets a.out.now 0) (bytes_more (table_row a.tb) l.i),
     )
 
 pub returns : goal.returns
 returns c =
     let l = c.loop-i in
     let a = c.args in
-    let all : l.i ≡ a.t1.n = omega arith in (
-      l.invariant.2 ∙ ap (λ (k : ℕ). length (rows_bytes (indexed (table_row a.t1) 0 k))) all,
-      l.invariant.3 ∙ ap (λ (k : ℕ). sets a.out.now 0 (rows_bytes (indexed (table_row a.t1) 0 k))) all,
+    let all : l.i ≡ a.tb.n = omega arith in (
+      l.invariant.2 ∙ ap (λ (k : ℕ). length (rows_bytes (indexed (table_row a.tb) 0 k))) all,
+      l.invariant.3 ∙ ap (λ (k : ℕ). sets a.out.now 0 (rows_bytes (indexed (table_row a.tb) 0 k))) all,
     )

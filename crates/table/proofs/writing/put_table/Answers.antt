@@ -23,7 +23,7 @@ put_rows-end-requires c =
 
 pub put_header-requires : goal.put_header-requires
 put_header-requires c =
-    let kept : length c.put_rows-end.new.out.0 ≡ length c.args.out.now = c.put_rows-end.auto.1.0 in
+    let kept : length c.put_rows-end.new.out.0 ≡ length c.args.out.now = c.put_rows-end.auto.out.0 in
     omega (arith, kept, c.put_rows-end.ensures.0, c.if-out-size.false, c.file_size-size.ensures, length_file (rows_of c.args.tb))
 
 pub returns : goal.returns
