@@ -29,7 +29,7 @@ stepped_tick-requires c =
 
 pub returns-then-decoded : goal.returns-then-decoded
 returns-then-decoded c =
-    let w = halves (way c.before.before.before.before.before.before.before) in
+    let w = halves (way (goal.at.returns-then-decoded c).After-tick-ticked) in
     (c.stepped_tick.ensures ∙ w.0, c.write_state.ensures ∙ w.1)
 
 pub returns-else-decoded : goal.returns-else-decoded

@@ -12,11 +12,8 @@ use Rattle.event.proofs.Found.{bad_read, tick_read, offer_read}
 use Rattle.event.proofs.first_event.Goals as goal
 use Rattle.event.proofs.first_event.Goals.{After-check_field, Else-tag-eq-TICK_TAG, Start, Then-tag-eq-TICK_TAG}
 
-abbrev start : (c : After-check_field) → Start
-start c = c.before.before.before.before
-
 abbrev bytes : (c : After-check_field) → List ℕ
-bytes c = (start c).args.s.now
+bytes c = c.args.s.now
 
 known : (c : After-check_field) → length_of c.value_length.result ≡ event_length (byte (bytes c) 0)
 known c = c.value_length.ensures ∙ ap event_length c.tag_of-tag.ensures
@@ -29,7 +26,7 @@ whole c = c.before.before.before.before
 tick-field : (c : Then-tag-eq-TICK_TAG) → (6 ≤ length (bytes (whole c))) × (c.in-Whole.size ≡ 6) × (read_event (bytes (whole c)) ≡ tick_event (bytes (whole c)))
 tick-field c =
     let check = whole c in
-    tick_read (bytes check) (start check).pre.0 _ (known check) (sym check.check_field.ensures ∙ c.in-Whole.is) (sym check.tag_of-tag.ensures ∙ c.if-tag-eq-TICK_TAG.true)
+    tick_read (bytes check) check.requires.0 _ (known check) (sym check.check_field.ensures ∙ c.in-Whole.is) (sym check.tag_of-tag.ensures ∙ c.if-tag-eq-TICK_TAG.true)
 
 abbrev other : (c : Else-tag-eq-TICK_TAG) → After-check_field
 other c = c.before.before.before.before
@@ -37,20 +34,20 @@ other c = c.before.before.before.before
 offer-field : (c : Else-tag-eq-TICK_TAG) → (7 ≤ length (bytes (other c))) × (c.in-Whole.size ≡ 7) × (read_event (bytes (other c)) ≡ offer_event (bytes (other c)))
 offer-field c =
     let check = other c in
-    offer_read (bytes check) (start check).pre.0 _ (known check) (sym check.check_field.ensures ∙ c.in-Whole.is) (λ e. c.if-tag-eq-TICK_TAG.false (check.tag_of-tag.ensures ∙ e))
+    offer_read (bytes check) check.requires.0 _ (known check) (sym check.check_field.ensures ∙ c.in-Whole.is) (λ e. c.if-tag-eq-TICK_TAG.false (check.tag_of-tag.ensures ∙ e))
 
 pub tick_event-requires : goal.tick_event-requires
-tick_event-requires c = let h = tick-field c in (h.0, h.1, (start (whole c)).requires.1)
+tick_event-requires c = let h = tick-field (goal.at.tick_event-requires c).Then-tag-eq-TICK_TAG in (h.0, h.1, (start (whole (goal.at.tick_event-requires c).Then-tag-eq-TICK_TAG)).requires.1)
 
 pub offer_event-requires : goal.offer_event-requires
-offer_event-requires c = let h = offer-field c in (h.0, h.1, (start (other c)).requires.1)
+offer_event-requires c = let h = offer-field (goal.at.offer_event-requires c).Else-tag-eq-TICK_TAG in (h.0, h.1, (start (other (goal.at.offer_event-requires c).Else-tag-eq-TICK_TAG)).requires.1)
 
 pub returns-in-Bad : goal.returns-in-Bad
 returns-in-Bad c =
-    bad_read (bytes c.before.before.before) (start c.before.before.before).requires.0 _ (known c.before.before.before) (start c.before.before.before).args.at (sym c.check_field.ensures ∙ c.in-Bad.is)
+    bad_read (bytes (goal.at.returns-in-Bad c).After-check_field) (start (goal.at.returns-in-Bad c).After-check_field).requires.0 _ (known (goal.at.returns-in-Bad c).After-check_field) (start (goal.at.returns-in-Bad c).After-check_field).args.at (sym c.check_field.ensures ∙ c.in-Bad.is)
 
 pub returns-then-tag-eq-TICK_TAG : goal.returns-then-tag-eq-TICK_TAG
-returns-then-tag-eq-TICK_TAG c = c.tick_event.ensures ∙ ap (event_of (start (whole c.before)).args.at) (sym (tick-field c.before).2)
+returns-then-tag-eq-TICK_TAG c = c.tick_event.ensures ∙ ap (event_of (start (whole (goal.at.returns-then-tag-eq-TICK_TAG c).Then-tag-eq-TICK_TAG)).args.at) (sym (tick-field (goal.at.returns-then-tag-eq-TICK_TAG c).Then-tag-eq-TICK_TAG).2)
 
 pub returns-else-tag-eq-TICK_TAG : goal.returns-else-tag-eq-TICK_TAG
-returns-else-tag-eq-TICK_TAG c = c.offer_event.ensures ∙ ap (event_of (start (other c.before)).args.at) (sym (offer-field c.before).2)
+returns-else-tag-eq-TICK_TAG c = c.offer_event.ensures ∙ ap (event_of (start (other (goal.at.returns-else-tag-eq-TICK_TAG c).Else-tag-eq-TICK_TAG)).args.at) (sym (offer-field (goal.at.returns-else-tag-eq-TICK_TAG c).Else-tag-eq-TICK_TAG).2)
