@@ -18,7 +18,7 @@ use Rattle.state.specs.declared.State.{State}
 use Rattle.table.specs.Memory.{table_row}
 use Rattle.state.specs.Meaning.{Kept, age_at, entry, firm_at, firms_of, last_of, rows_from, slot_at, slots_of, station_of, wrapped}
 use Rattle.state.proofs.Positions.{all_rows, holds_rows, map_rows}
-use Rattle.state.proofs.Widths.{Widths, image_of, row_good, runs_rows, widths}
+use Rattle.state.proofs.Widths.{Widths, image_of_lem, row_good, runs_rows, widths}
 use Rattle.block.specs.Tests.{most_run}
 use Rattle.block.specs.Image.{Imaged}
 use Rattle.block.proofs.Bits.{known_in}
@@ -35,7 +35,7 @@ module _ (rows : Rows) (s : State) (I : Imaged rows s) where
   K = I.stored.kept
 
   image : Image (station_of rows s)
-  image = image_of rows s I.stored
+  image = image_of_lem rows s I.stored
 
   table : TableOk (rows_from (table_row rows.table) 0 rows.table.n)
   unfolding station_of image

@@ -38,15 +38,15 @@ state_at b = record {
 abbrev pub marks_bytes : State → List ℕ
 marks_bytes s = s.count % 256 ∷ s.last % 256 ∷ []
 
--- from clock-at: the clock, the next ticket, the open rows, the rested rows
+-- from clock_at: the clock, the next ticket, the open rows, the rested rows
 abbrev pub numbers_bytes : State → List ℕ
 numbers_bytes s = le32_bytes s.clock ++ (le32_bytes s.next ++ (le16_bytes s.«open» ++ le16_bytes s.rested))
 
--- from n-at: how many rows, the marks, the free byte, the numbers
+-- from n_at: how many rows, the marks, the free byte, the numbers
 unfoldable pub head_bytes : ℕ → State → List ℕ
 head_bytes n s = n % 256 ∷ (marks_bytes s ++ (0 ∷ numbers_bytes s))
 
--- from C-at
+-- from C_at
 unfoldable pub table_bytes : Rows → List ℕ
 table_bytes rows = joined le16_bytes rows.table.c ++ (joined le16_bytes rows.table.d ++ (joined le16_bytes rows.table.t ++ joined le16_bytes rows.u))
 
@@ -54,19 +54,19 @@ table_bytes rows = joined le16_bytes rows.table.c ++ (joined le16_bytes rows.tab
 unfoldable pub jobs_bytes : State → List ℕ
 jobs_bytes s = joined le16_bytes s.run ++ joined le32_bytes s.stamp
 
--- from rank-at
+-- from rank_at
 abbrev pub ranks_bytes : Rows → List ℕ
 ranks_bytes rows = joined le8_bytes rows.table.rank
 
--- from budget-at
+-- from budget_at
 unfoldable pub queue_bytes : State → List ℕ
 queue_bytes s = joined le16_bytes s.budget ++ (joined le16_bytes s.used ++ joined le32_bytes s.ticket)
 
--- from M-at
+-- from M_at
 abbrev pub margins_bytes : Rows → List ℕ
 margins_bytes rows = joined le16_bytes rows.table.m
 
--- from reserved-at
+-- from reserved_at
 unfoldable pub reserved : List ℕ
 reserved = replicate reserved_bytes 0
 

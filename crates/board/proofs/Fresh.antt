@@ -24,8 +24,8 @@ module _ (file : List ℕ) (bytes : Bytes file) (ps : List PlannedRow) (is_read 
       let accepted = (table_promises.read_iff file bytes ps).0 is_read in
       ((table_promises.planned_iff rs ps).1 accepted.plan_is, accepted.few, file_narrow rs (rw accepted.bytes_are at bytes))
 
-  pub planned_rows : plan (map (λ p. p.row) ps) ≡ planned ps
-  planned_rows = planned_narrow.0
+  pub planned_rows_lem : plan (map (λ p. p.row) ps) ≡ planned ps
+  planned_rows_lem = planned_narrow.0
 
   long : Long (rows_for ps) (fresh_in (rows_for ps).table.n)
   unfolding fresh_in

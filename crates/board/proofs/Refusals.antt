@@ -87,9 +87,9 @@ untouched = record { plan_refused = plan_refused; tick_refused = tick_refused; o
 
 -- a tick is refused by its flags, or by its block
 
-pub tick_numbers : TickNumbers
+pub tick_numbers_lem : TickNumbers
 unfolding tick_block
-tick_numbers b set flags = go (other_flag flags) (decoded_of b).ok
+tick_numbers_lem b set flags = go (other_flag flags) (decoded_of b).ok
   where
     go : (f ok : Bool)
         → (cond f (giving (refused_tick (number unknown_flag)) b) (cond ok (ticked_on (stepped b set flags) b) (giving (refused_tick (number not_image)) b))).answer.refusal

@@ -27,7 +27,7 @@ use Rattle.block.specs.Places.{block_bytes}
 use Rattle.board.specs.Blocks.{giving, plan_block, planned_on}
 use Rattle.board.specs.Numbers.{refused_plan}
 use Rattle.board.specs.Promises.{AnyBlock, HardOnBlock, OnBlocks, Promises, UploadOnBlock, block_after, block_on, block_replies, reply_on}
-use Rattle.board.proofs.Fresh.{fresh_stands, planned_rows}
+use Rattle.board.proofs.Fresh.{fresh_stands, planned_rows_lem}
 use Rattle.board.proofs.Standing.{StandsFor, accepted_stands, after_stands, replies_stands, step_stands}
 use Rattle.board.proofs.InForce.{table_19, table_back}
 use Rattle.board.proofs.Named.{named_back}
@@ -134,7 +134,7 @@ promises b file bytes e = go (eqb (length b) block_bytes) (read file) refl e
     go : (f : Bool) (R : Reading) → read file ≡ R → (cond f (planned_on b (scan_row (scan 16 0 file)) R) (giving (refused_plan (number not_image) 0 0 0) b)).answer.refusal ≡ 0
         → (ps : List PlannedRow) × (R ≡ read_as ps) × OnBlocks file ps (cond f (planned_on b (scan_row (scan 16 0 file)) R) (giving (refused_plan (number not_image) 0 0 0) b)).block
     go true (read_as ps) q z =
-        let planned = planned_rows file bytes ps q in (
+        let planned = planned_rows_lem file bytes ps q in (
           ps,
           refl,
           on_blocks file bytes ps q (image_of (rows_for ps) (fresh_in (rows_for ps).table.n))

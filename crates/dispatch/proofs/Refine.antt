@@ -25,7 +25,7 @@ use Rattle.state.specs.Sets.{known, others}
 use Rattle.state.proofs.Agrees.{Agrees}
 use Rattle.state.proofs.Bits.{bit_of_and, bit_known, bit_of_or, bit_others, known_lt}
 use Rattle.state.proofs.Positions.{all_rows, elem_of, first_row, length_rows}
-use Rattle.state.proofs.Widths.{U_le, image_of, positive, row_good, thin}
+use Rattle.state.proofs.Widths.{U_le, image_of_lem, positive, row_good, thin}
 use Rattle.state.proofs.Bools.{leb_ltb}
 use Rattle.answer.specs.Answers.{answer_of, runner_of}
 use Rattle.answer.specs.Answers as answers
@@ -47,7 +47,7 @@ module _ (rows : Rows) (s : State) (S : Stored rows s) (set : ℕ) (small : set 
   st = station_of rows s
 
   I : Image st
-  I = image_of rows s S
+  I = image_of_lem rows s S
 
   few : rows.table.n ≤ 16
   few = S.kept.table.few
@@ -228,4 +228,4 @@ pub tick_refines : (rows : Rows) (s : State) → Stored rows s → (set : ℕ) �
     → TickRefines rows (tick (station_of rows s) set d wants) (tick_in rows s set d wants)
 tick_refines rows s S set small d wants =
     let (v, e, k) = tick_steps rows s S set small d wants in
-    (v, e, record { kept = k; image = rw e ((image_iff (tick (station_of rows s) set d wants).station).1 (tick_image (station_of rows s) set d wants (image_of rows s S))) })
+    (v, e, record { kept = k; image = rw e ((image_iff (tick (station_of rows s) set d wants).station).1 (tick_image (station_of rows s) set d wants (image_of_lem rows s S))) })

@@ -18,7 +18,7 @@ use Rattle.state.specs.Sets.{others}
 use Rattle.state.proofs.Agrees.{Agrees}
 use Rattle.state.proofs.Bits.{bit_one}
 use Rattle.state.proofs.Positions.{any_rows, each_rows, first_row, holds_rows, shift_rows}
-use Rattle.state.proofs.Widths.{image_of}
+use Rattle.state.proofs.Widths.{image_of_lem}
 use Rattle.state.proofs.Bools.{leb_ltb, or_no}
 use Rattle.answer.specs.declared.Closing.{Closing}
 use Rattle.answer.specs.declared.Closing.TheVariants.{Nothing, HardDone, HardSpent, FirmDone, FirmSpent}
@@ -120,7 +120,7 @@ module _ (rows : Rows) (s : State) (S : Stored rows s) where
   st = station_of rows s
 
   I : Image st
-  I = image_of rows s S
+  I = image_of_lem rows s S
 
   as_is : Agrees rows s st
   unfolding station_of

@@ -47,7 +47,7 @@ module _ (rows : Rows) (s : State) (K : Kept rows s) (thin : (i : ℕ) → i < r
 
     -- a row runs
 
-    module _ (i : ℕ) (known : i < rows.table.n) (is_open_lem : bit s.«open» i ≡ true) where
+    module _ (i : ℕ) (known : i < rows.table.n) (still_open : bit s.«open» i ≡ true) where
       abbrev after : State
       after = reworked s s.«open» i (set s.run i (bumped (entry s.run i))) s.count s.budget s.used s.ticket
 
@@ -58,18 +58,18 @@ module _ (rows : Rows) (s : State) (K : Kept rows s) (thin : (i : ℕ) → i < r
       after_is = rw (lt-ltb i 16 low)
 
       run_is : (j : ℕ) → entry after.run j ≡ cond (eqb j i) (suc (entry s.run i)) (entry s.run j)
-      run_is j = set_at s.run i (bumped (entry s.run i)) j (omega (arith, K.jobs.runs, low)) ∙ rw (bumped_is (entry s.run i) (unspent i known is_open_lem))
+      run_is j = set_at s.run i (bumped (entry s.run i)) j (omega (arith, K.jobs.runs, low)) ∙ rw (bumped_is (entry s.run i) (unspent i known still_open))
 
       job_is : (j : ℕ) → job_at after j ≡ cond (eqb j i) (ran_once (job_at s j)) (job_at s j)
       job_is j = rw (run_is j) (go (eqb j i) refl)
         where
           go : (b : Bool) → eqb j i ≡ b
               → cond (bit s.«open» j) (opened (cond b (suc (entry s.run i)) (entry s.run j))) closed ≡ cond b (ran_once (job_at s j)) (job_at s j)
-          go true e = let q : j ≡ i = eqb-true j i e in rw (q, is_open_lem)
+          go true e = let q : j ≡ i = eqb-true j i e in rw (q, still_open)
           go false e = refl
 
       closed_blank : (j : ℕ) → bit s.«open» j ≡ false → entry after.run j ≡ 0
-      closed_blank j e = run_is j ∙ rw (ne_eqb j i (λ q. true≢false (sym is_open_lem ∙ sym (ap (bit s.«open») q) ∙ e))) (K.jobs.run_blank j e)
+      closed_blank j e = run_is j ∙ rw (ne_eqb j i (λ q. true≢false (sym still_open ∙ sym (ap (bit s.«open») q) ∙ e))) (K.jobs.run_blank j e)
 
       after_kept : Kept rows after
       after_kept = record {
@@ -161,7 +161,7 @@ module _ (rows : Rows) (s : State) (K : Kept rows s) (thin : (i : ℕ) → i < r
         go false e = e
 
     row_case : (i : ℕ) (band : rules.Band) → Holds IsOpen i 0 (slots_of rows s) → Runs c (hard i band)
-    row_case i band H = let (known, is_open_lem) = row_open i H in row_runs i known is_open_lem band
+    row_case i band H = let (known, still_open) = row_open i H in row_runs i known still_open band
 
     firm_case : (k : ℕ) → s.count ≡ k → (f : Firm) (more : List Firm) → rows_from (firm_at s) 0 k ≡ f ∷ more → Runs c (firm f.ticket)
     unfolding rows_from

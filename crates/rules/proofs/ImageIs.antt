@@ -73,13 +73,13 @@ firms_fit l [] p o = tt
 firms_fit l (f ∷ fs) ((b, r, n), ps) (o, os) = (((b, r), o), firms_fit l fs ps os)
 
 tested_image : (st : Station) → Tested st → Image st
-tested_image st (((((((narrows, None_found), times), runs), few), firms), tickets), last) =
+tested_image st (((((((narrows, none_found), times), runs), few), firms), tickets), last) =
     let ((((clock, next), rows), slots), budgets) = narrows in
     let (ran, first) = (last_iff st.next st.last st.slots st.firms next few tickets).0 last in
     record {
       clock_lt = clock;
-      table = record { few = rw (length-map st.slots (λ s. s.row)) rows; narrow = rows_narrow st.slots slots; no_fault = None_found };
-      good = slots_good st.slots slots ((table_fault_iff (rows_of st.slots)).0 None_found).0 times;
+      table = record { few = rw (length-map st.slots (λ s. s.row)) rows; narrow = rows_narrow st.slots slots; no_fault = none_found };
+      good = slots_good st.slots slots ((table_fault_iff (rows_of st.slots)).0 none_found).0 times;
       runs = runs;
       firms = all_imp (FirmFits st.last) (λ f. last_to st.last f.ticket ≡ false → Live f) (λ f x. x.1) st.firms firms;
       paid = firms_paid st.last st.firms budgets firms;

@@ -102,8 +102,8 @@ plan_rows_lem rs ps = go (table_fault rs) (plan_rows [] 0 rs)
 
 plan_passed : (rs : List Row) (ps : List PlannedRow) → plan rs ≡ planned ps → Planned rs ps
 plan_passed rs ps e =
-    let (None_found, rows) = plan_rows_lem rs ps e in
-    let (oks, ranks) = (table_fault_iff rs).0 None_found in
+    let (none_found, rows) = plan_rows_lem rs ps e in
+    let (oks, ranks) = (table_fault_iff rs).0 none_found in
     let (rows_are, bounds) = on_planned (λ qs. (rows_in qs ≡ rs) × Bounds [] qs) (plan_rows [] 0 rs) (rows_bounds [] tt 0 rs oks) ps rows in
     record { rows_are = rows_are; rows_ok = oks; ranks_ok = ranks; bounds = bounds }
 

@@ -224,7 +224,7 @@ file_a =
     ++ (0x01 ∷ 0x00 ∷ 0x07 ∷ 0x00 ∷ 0x05 ∷ 0x00 ∷ 0x0c ∷ 0x00 ∷ 0x0c ∷ 0x01 ∷ [])
     ++ (0x0f ∷ 0x00 ∷ 0x00 ∷ [])
 
--- hard 0 lower is L1, hard 1 upper is U2, hard-job 0 is H1; as document 02 has it (§3): the fifth event steps tick 3, and note 14 0001 is printed after its line
+-- hard 0 lower is L1, hard 1 upper is U2, hard_job 0 is H1; as document 02 has it (§3): the fifth event steps tick 3, and note 14 0001 is printed after its line
 abbrev pub listing : Listing
 listing =
     (0x21 ∷ 0x00 ∷ 0x03 ∷ 0x00 ∷ 0x03 ∷ 0x00 ∷ [], ran 0 (hard 0 lower) nothing [])

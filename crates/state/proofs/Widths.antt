@@ -34,18 +34,18 @@ tickets_lt next [] T = tt
 tickets_lt next (f ∷ fs) (e, T) = (rw e (mod-lt _ (omega arith)), tickets_lt next fs T)
 
 module _ (rows : Rows) (s : State) (S : Stored rows s) where
-  pub image_of : Image (station_of rows s)
-  image_of = (image_iff (station_of rows s)).0 S.image
+  pub image_of_lem : Image (station_of rows s)
+  image_of_lem = (image_iff (station_of rows s)).0 S.image
 
   -- the rows
 
   pub row_good : (i : ℕ) → i < rows.table.n → Good (slot_at rows s i)
   unfolding station_of
-  row_good i h = all_rows Good (slot_at rows s) 0 rows.table.n image_of.good i (omega arith) (omega arith)
+  row_good i h = all_rows Good (slot_at rows s) 0 rows.table.n image_of_lem.good i (omega arith) (omega arith)
 
   pub thin : (i : ℕ) → i < rows.table.n → entry rows.table.t i < 2 ^ 16
   unfolding station_of
-  thin i h = all_rows (λ r. r.T < 2 ^ 16) (table_row rows.table) 0 rows.table.n (rw (map_rows (λ x. x.row) (slot_at rows s) 0 rows.table.n) at image_of.table.narrow) i (omega arith) (omega arith)
+  thin i h = all_rows (λ r. r.T < 2 ^ 16) (table_row rows.table) 0 rows.table.n (rw (map_rows (λ x. x.row) (slot_at rows s) 0 rows.table.n) at image_of_lem.table.narrow) i (omega arith) (omega arith)
 
   pub positive : (i : ℕ) → i < rows.table.n → 1 ≤ entry rows.table.t i
   positive i h = omega (arith, row_good i h)
@@ -64,21 +64,21 @@ module _ (rows : Rows) (s : State) (S : Stored rows s) where
   run_lt i false e k = omega (arith, S.kept.jobs.run_blank i e)
   run_lt i true e (no h) = absurd (true≢false (sym e ∙ S.kept.jobs.open_past i (omega arith)))
   run_lt i true e (yes h) =
-      let r = runs_rows (last_at (last_of s)) (slot_at rows s) 0 rows.table.n image_of.runs i (omega arith) (omega arith) in
+      let r = runs_rows (last_at (last_of s)) (slot_at rows s) 0 rows.table.n image_of_lem.runs i (omega arith) (omega arith) in
       omega (arith, r.at_most (entry s.run i) (rw e), row_lt i (yes h))
 
   firm_lt : (j : ℕ) → Dec (j < s.count) → (entry s.ticket j < 2 ^ 32) × (entry s.budget j < 2 ^ 16) × (entry s.used j < 2 ^ 16)
   unfolding station_of
   firm_lt j (no h) = omega (arith, S.kept.queue.past j (omega arith))
   firm_lt j (yes h) =
-      let p = all_rows Paid (firm_at s) 0 s.count image_of.paid j (omega arith) (omega arith) in
-      (all_rows (λ f. f.ticket < 2 ^ 32) (firm_at s) 0 s.count (tickets_lt s.next (rows_from (firm_at s) 0 s.count) image_of.tickets.to_next) j (omega arith) (omega arith), p.2, omega (arith, p))
+      let p = all_rows Paid (firm_at s) 0 s.count image_of_lem.paid j (omega arith) (omega arith) in
+      (all_rows (λ f. f.ticket < 2 ^ 32) (firm_at s) 0 s.count (tickets_lt s.next (rows_from (firm_at s) 0 s.count) image_of_lem.tickets.to_next) j (omega arith) (omega arith), p.2, omega (arith, p))
 
   pub widths : Widths rows s
   unfolding station_of
   widths = record {
     rows_lt = λ i. row_lt i (dec_lt i rows.table.n);
-    next_lt = image_of.tickets.next_lt;
+    next_lt = image_of_lem.tickets.next_lt;
     run_lt = λ i. run_lt i (bit s.«open» i) refl (dec_lt i rows.table.n);
     firms_lt = λ j. firm_lt j (dec_lt j s.count);
   }

@@ -64,10 +64,10 @@ at_or_else : (i : ℕ) (o z : Option Refusal)
 at_or_else i none z = refl
 at_or_else i (some why) z = refl
 
-module _ (o : Option Refusal) (i : ℕ) (zero_margin_lem : Bool) where
+module _ (o : Option Refusal) (i : ℕ) (is_zero : Bool) where
   -- what 21 says of it
   abbrev asked : Option Refusal
-  asked = cond zero_margin_lem (some M_zero) none
+  asked = cond is_zero (some M_zero) none
 
   pub zero_asked : checked_of (map (λ why. at_row why i) o) ≡ Checked.Passed → map (λ why. at_row why i) (or_else o asked) ≡ map (λ why. at_row why i) asked
   zero_asked e = at_or_else i o asked ∙ passed_none o i (map (λ why. at_row why i) asked) e
@@ -92,9 +92,9 @@ or_else_none : (o : Option Refusal) (i : ℕ) (x : Option Refused) → or_else (
 or_else_none none i x e = (refl, e)
 or_else_none (some why) i x e = absurd (let z : ◌≡◌ {A = ℕ} 0 1 = cc in omega arith)
 
-none_tag : (o : Option Refusal) (zero_margin_lem : Bool) → or_else o (cond zero_margin_lem (some M_zero) none) ≡ none → o ≡ none
-none_tag none zero_margin_lem e = refl
-none_tag (some why) zero_margin_lem e = e
+none_tag : (o : Option Refusal) (is_zero : Bool) → or_else o (cond is_zero (some M_zero) none) ≡ none → o ≡ none
+none_tag none is_zero e = refl
+none_tag (some why) is_zero e = e
 
 none_from : (rows : FileRows) → fault_from rows 0 ≡ none → (i : ℕ) → i ≤ rows.table.n → fault_from rows i ≡ none
 none_from rows e zero h = e
