@@ -81,9 +81,14 @@ module _ {read : List ℕ → ℕ → ℕ} {bytes : ℕ → List ℕ} {w most : 
   unfolding rows_from joined
   read_joined [] q h = refl
   read_joined (x ∷ xs) q h =
-      rw (append_assoc (bytes x) (joined bytes xs) q, mul-zero w, F.back x (joined bytes xs ++ q) (h 0), ← shift_rows (λ i. read (bytes x ++ (joined bytes xs ++ q)) (w * i)) (λ i. read (bytes x ++ (joined bytes xs ++ q)) (w * suc i)) 0 (length xs) (λ i. refl))
-      (ap (λ l. x ∷ l) (same_rows (λ i. read (joined bytes xs ++ q) (w * i)) (λ i. read (bytes x ++ (joined bytes xs ++ q)) (w * suc i)) 0 (length xs) (λ i l m. next x (joined bytes xs ++ q) i)
-      ∙ read_joined xs q (λ i. h (suc i))))
+      let head : read (bytes x ++ (joined bytes xs ++ q)) (w * 0) ≡ x = ap (read (bytes x ++ (joined bytes xs ++ q))) (mul-zero w) ∙ F.back x (joined bytes xs ++ q) (h 0) in
+      let tail : rows_from (λ i. read (bytes x ++ (joined bytes xs ++ q)) (w * i)) 1 (length xs) ≡ xs =
+          sym (shift_rows (λ i. read (bytes x ++ (joined bytes xs ++ q)) (w * i)) (λ i. read (bytes x ++ (joined bytes xs ++ q)) (w * suc i)) 0 (length xs) (λ i. refl))
+          ∙ same_rows (λ i. read (joined bytes xs ++ q) (w * i)) (λ i. read (bytes x ++ (joined bytes xs ++ q)) (w * suc i)) 0 (length xs) (λ i l m. next x (joined bytes xs ++ q) i)
+          ∙ read_joined xs q (λ i. h (suc i)) in
+      ap (λ l. rows_from (λ i. read l (w * i)) 0 (suc (length xs))) (append_assoc (bytes x) (joined bytes xs) q)
+      ∙ ap (λ y. y ∷ rows_from (λ i. read (bytes x ++ (joined bytes xs ++ q)) (w * i)) 1 (length xs)) head
+      ∙ ap (λ l. x ∷ l) tail
 
   pub numbers_back : (xs : List ℕ) {b q : List ℕ} {at n : ℕ} → Stands b at (joined bytes xs) q → length xs ≡ n → ((i : ℕ) → entry xs i < most) → numbers_at read w b at n ≡ xs
   numbers_back xs {b} {q} {at} {n} f l h =

@@ -4,9 +4,9 @@ use Rattle.rules.specs.OneResult.{One}
 use Rattle.rules.proofs.OneResult.{one_result}
 use Rattle.state.specs.declared.Rows.{Rows}
 use Rattle.state.specs.declared.State.{State}
-use Rattle.offer_lem.specs.Answers.{offer_number}
-use Rattle.offer_lem.specs.Steps.{offer_made}
-use Rattle.offer_lem.specs.declared.Offered.{Offered}
+use Rattle.offer.specs.Answers.{offer_number}
+use Rattle.offer.specs.Steps.{offer_made}
+use Rattle.offer.specs.declared.Offered.{Offered}
 
 pub offer_lem : (rows : Rows) (s : State) (budget deadline : ℕ) → One (offer_made rows s budget deadline)
 offer_lem rows s budget deadline = one_result

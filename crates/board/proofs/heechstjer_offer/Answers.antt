@@ -19,15 +19,16 @@ way c o e =
 pub returns-in_default : goal.returns-in_default
 returns-in_default c =
     let e = c.in_default.is in
-    let w = halves (way c.before.before.before (Refused _) e) in
-    (ap refused_offer (c.offer_number.ensures ∙ ap offer_number e) ∙ w.0, w.1)
+    let w = halves (way (goal.at.returns-in_default c).After-offer-made (Refused _) e) in
+    record { value = ap refused_offer (c.offer_number.ensures ∙ ap offer_number e) ∙ w.0; block_after = w.1 }
 
 pub returns-in-Ticket : goal.returns-in-Ticket
 returns-in-Ticket c =
-    let w = halves (way c.before.before.before.before.before.before.before.before (Ticket _) c.in-Ticket.is) in
-    (w.0, c.write_state.ensures ∙ w.1)
+    let w = halves (way (goal.at.returns-in-Ticket c).After-offer-made (Ticket _) c.in-Ticket.is) in
+    record { value = w.0; block_after = c.write_state.ensures ∙ w.1 }
 
 pub returns-else-decoded : goal.returns-else-decoded
 returns-else-decoded c =
     let a = c.args in
-    halves (no_offer_way a.block.now a.budget a.deadline c.decode-decoded.result c.decode-decoded.ensures c.if-decoded.false)
+    let w = halves (no_offer_way a.block.now a.budget a.deadline c.decode-decoded.result c.decode-decoded.ensures c.if-decoded.false) in
+    record { value = w.0; block_after = w.1 }

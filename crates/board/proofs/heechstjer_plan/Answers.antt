@@ -8,22 +8,22 @@ pub returns-then-block-ne-BLOCK_BYTES : goal.returns-then-block-ne-BLOCK_BYTES
 returns-then-block-ne-BLOCK_BYTES c =
     let a = c.args in
     let w = halves (short_way a.block.now a.table.now c.if-block-ne-BLOCK_BYTES.true) in
-    (c.refused_plan.ensures ∙ w.0, w.1)
+    record { value = c.refused_plan.ensures ∙ w.0; block_after = w.1 }
 
 pub returns-in-Refused : goal.returns-in-Refused
 returns-in-Refused c =
     let a = c.args in
     let w = halves (refused_way a.block.now a.table.now c.if-block-ne-BLOCK_BYTES.false c.read_table-reading.result c.read_table-reading.ensures _ c.in-Refused.is) in
-    (c.refused_plan-in-Refused.ensures ∙ w.0, w.1)
+    record { value = c.refused_plan-in-Refused.ensures ∙ w.0; block_after = w.1 }
 
 pub returns-in-Accepted : goal.returns-in-Accepted
 returns-in-Accepted c =
     let a = c.args in
     let w = halves (planned_way a.block.now a.table.now c.if-block-ne-BLOCK_BYTES.false c.read_table-reading.result c.read_table-reading.ensures c.in-Accepted.is) in
     let rows = c.planned_rows in
-    let state = c.fresh_state-state in (
-      w.0,
-      c.encode.ensures ∙ encoded_whole a.block.now rows.result state.result c.if-block-ne-BLOCK_BYTES.false
+    let state = c.fresh_state-state in record {
+      value = w.0;
+      block_after = c.encode.ensures ∙ encoded_whole a.block.now rows.result state.result c.if-block-ne-BLOCK_BYTES.false
           ∙ ap₂ image_of rows.ensures state.ensures
-          ∙ w.1,
-    )
+          ∙ w.1;
+    }

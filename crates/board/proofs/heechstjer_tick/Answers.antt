@@ -19,7 +19,7 @@ pub returns-then-flags-ge4 : goal.returns-then-flags-ge4
 returns-then-flags-ge4 c =
     let a = c.args in
     let w = halves (flag_way a.block.now a.set a.flags c.if-flags-ge4.true) in
-    (c.refused_tick.ensures ∙ w.0, w.1)
+    record { value = c.refused_tick.ensures ∙ w.0; block_after = w.1 }
 
 pub stepped_tick-requires : goal.stepped_tick-requires
 stepped_tick-requires c =
@@ -29,11 +29,11 @@ stepped_tick-requires c =
 
 pub returns-then-decoded : goal.returns-then-decoded
 returns-then-decoded c =
-    let w = halves (way c.before.before.before.before.before.before.before) in
-    (c.stepped_tick.ensures ∙ w.0, c.write_state.ensures ∙ w.1)
+    let w = halves (way (goal.at.returns-then-decoded c).After-tick-ticked) in
+    record { value = c.stepped_tick.ensures ∙ w.0; block_after = c.write_state.ensures ∙ w.1 }
 
 pub returns-else-decoded : goal.returns-else-decoded
 returns-else-decoded c =
     let a = c.args in
     let w = halves (no_image_way a.block.now a.set a.flags c.if-flags-ge4.false c.decode-decoded.result c.decode-decoded.ensures c.if-decoded.false) in
-    (c.refused_tick-else-decoded.ensures ∙ w.0, w.1)
+    record { value = c.refused_tick-else-decoded.ensures ∙ w.0; block_after = w.1 }

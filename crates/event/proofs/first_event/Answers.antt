@@ -1,56 +1,55 @@
 -- `event::first_event` meets its contract: by what the check of its field says. Assumes nothing.
--- the bytes that are read, and the length that their tag asks for
 use Prim.Native.Nat.{ℕ, ◌≤◌}
 use mathlib.Core.List.{List}
 use mathlib.Core.Path.{◌≡◌, sym, ap, ◌∙◌}
 use lib.ListN.{length}
-use Rattle.rules.specs.Events.{event_length, offer_event, read_event, tick_event}
+use Rattle.rules.specs.Events.{event_length, offer_event, read_event, tick_event, tick_tag}
 use Rattle.rules.specs.Fields.{byte}
 use Rattle.wire.specs.Field.{length_of}
+use Rattle.wire.specs.declared.field.FieldCheck.{FieldCheck}
 use Rattle.event.specs.Answers.{event_of}
 use Rattle.event.proofs.Found.{bad_read, tick_read, offer_read}
 use Rattle.event.proofs.first_event.Goals as goal
-use Rattle.event.proofs.first_event.Goals.{After-check_field, Else-tag-eq-TICK_TAG, Start, Then-tag-eq-TICK_TAG}
+use Rattle.event.proofs.first_event.Goals.{After-check_field}
 
-abbrev start : (c : After-check_field) → Start
-start c = c.before.before.before.before
+-- the bytes that are read, and the length that their tag asks for
 
 abbrev bytes : (c : After-check_field) → List ℕ
-bytes c = (start c).args.s.now
+bytes c = c.args.s.now
 
 known : (c : After-check_field) → length_of c.value_length.result ≡ event_length (byte (bytes c) 0)
 known c = c.value_length.ensures ∙ ap event_length c.tag_of-tag.ensures
 
 -- a whole field with a tick's tag, and one with an offer's
 
-abbrev whole : (c : Then-tag-eq-TICK_TAG) → After-check_field
-whole c = c.before.before.before.before
+tick_field : (c : After-check_field) (size : ℕ) → c.check_field.result ≡ FieldCheck.Whole size → c.tag_of-tag.result ≡ tick_tag
+    → (6 ≤ length (bytes c)) × (size ≡ 6) × (read_event (bytes c) ≡ tick_event (bytes c))
+tick_field c size e tag = tick_read (bytes c) c.requires.0 _ (known c) (sym c.check_field.ensures ∙ e) (sym c.tag_of-tag.ensures ∙ tag)
 
-tick-field : (c : Then-tag-eq-TICK_TAG) → (6 ≤ length (bytes (whole c))) × (c.in-Whole.size ≡ 6) × (read_event (bytes (whole c)) ≡ tick_event (bytes (whole c)))
-tick-field c =
-    let check = whole c in
-    tick_read (bytes check) (start check).pre.0 _ (known check) (sym check.check_field.ensures ∙ c.in-Whole.is) (sym check.tag_of-tag.ensures ∙ c.if-tag-eq-TICK_TAG.true)
-
-abbrev other : (c : Else-tag-eq-TICK_TAG) → After-check_field
-other c = c.before.before.before.before
-
-offer-field : (c : Else-tag-eq-TICK_TAG) → (7 ≤ length (bytes (other c))) × (c.in-Whole.size ≡ 7) × (read_event (bytes (other c)) ≡ offer_event (bytes (other c)))
-offer-field c =
-    let check = other c in
-    offer_read (bytes check) (start check).pre.0 _ (known check) (sym check.check_field.ensures ∙ c.in-Whole.is) (λ e. c.if-tag-eq-TICK_TAG.false (check.tag_of-tag.ensures ∙ e))
+offer_field : (c : After-check_field) (size : ℕ) → c.check_field.result ≡ FieldCheck.Whole size → (c.tag_of-tag.result ≡ tick_tag → ⊥)
+    → (7 ≤ length (bytes c)) × (size ≡ 7) × (read_event (bytes c) ≡ offer_event (bytes c))
+offer_field c size e other = offer_read (bytes c) c.requires.0 _ (known c) (sym c.check_field.ensures ∙ e) (λ q. other (c.tag_of-tag.ensures ∙ q))
 
 pub tick_event-requires : goal.tick_event-requires
-tick_event-requires c = let h = tick-field c in (h.0, h.1, (start (whole c)).requires.1)
+tick_event-requires c =
+    let h = tick_field (goal.at.tick_event-requires c).After-check_field _ c.in-Whole.is c.if-tag-eq-TICK_TAG.true in
+    (h.0, h.1, c.requires.1)
 
 pub offer_event-requires : goal.offer_event-requires
-offer_event-requires c = let h = offer-field c in (h.0, h.1, (start (other c)).requires.1)
+offer_event-requires c =
+    let h = offer_field (goal.at.offer_event-requires c).After-check_field _ c.in-Whole.is c.if-tag-eq-TICK_TAG.false in
+    (h.0, h.1, c.requires.1)
 
 pub returns-in-Bad : goal.returns-in-Bad
 returns-in-Bad c =
-    bad_read (bytes c.before.before.before) (start c.before.before.before).requires.0 _ (known c.before.before.before) (start c.before.before.before).args.at (sym c.check_field.ensures ∙ c.in-Bad.is)
+    bad_read c.args.s.now c.requires.0 _ (known (goal.at.returns-in-Bad c).After-check_field) c.args.at (sym c.check_field.ensures ∙ c.in-Bad.is)
 
 pub returns-then-tag-eq-TICK_TAG : goal.returns-then-tag-eq-TICK_TAG
-returns-then-tag-eq-TICK_TAG c = c.tick_event.ensures ∙ ap (event_of (start (whole c.before)).args.at) (sym (tick-field c.before).2)
+returns-then-tag-eq-TICK_TAG c =
+    let h = tick_field (goal.at.returns-then-tag-eq-TICK_TAG c).After-check_field _ c.in-Whole.is c.if-tag-eq-TICK_TAG.true in
+    c.tick_event.ensures ∙ ap (event_of c.args.at) (sym h.2)
 
 pub returns-else-tag-eq-TICK_TAG : goal.returns-else-tag-eq-TICK_TAG
-returns-else-tag-eq-TICK_TAG c = c.offer_event.ensures ∙ ap (event_of (start (other c.before)).args.at) (sym (offer-field c.before).2)
+returns-else-tag-eq-TICK_TAG c =
+    let h = offer_field (goal.at.returns-else-tag-eq-TICK_TAG c).After-check_field _ c.in-Whole.is c.if-tag-eq-TICK_TAG.false in
+    c.offer_event.ensures ∙ ap (event_of c.args.at) (sym h.2)

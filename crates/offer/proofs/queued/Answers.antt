@@ -2,4 +2,4 @@
 use Rattle.offer.proofs.queued.Goals as goal
 
 pub returns : goal.returns
-returns c = rw c.wrapping_add_u32.ensures
+returns c = rw c.wrapping_add_u32.ensures.value

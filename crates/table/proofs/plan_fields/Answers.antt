@@ -26,10 +26,10 @@ plan_rows-requires c =
 
 pub returns-in-Failed : goal.returns-in-Failed
 returns-in-Failed c =
-    c.unplanned.ensures ∙ plan_failed (fields_of c.args.rows) (sym (checked c.before.before.before.before) ∙ c.in-Failed.is)
+    c.unplanned.ensures ∙ plan_failed (fields_of c.args.rows) (sym (checked (goal.at.returns-in-Failed c).After-rows_check) ∙ c.in-Failed.is)
 
 pub returns-in-Passed : goal.returns-in-Passed
 returns-in-Passed c =
     let rows = c.args.rows in
-    let fine = fault_passed _ (sym (checked c.before.before.before) ∙ c.in-Passed.is) in
+    let fine = fault_passed _ (sym (checked (goal.at.returns-in-Passed c).After-rows_check) ∙ c.in-Passed.is) in
     c.plan_rows.ensures ∙ ap planning_of (sym (plan_passed (fields_of rows) fine ∙ ap (plan_rows [] 0) (rows_fields rows)))

@@ -13,7 +13,7 @@ file : (c : In-Whole) → let s = c.args.s.now in (c.in-Whole.n ≤ 16) × RowFi
 file c = scan_whole _ _ (sym c.scan_fields.ensures ∙ c.in-Whole.is)
 
 pub read_rows-requires : goal.read_rows-requires
-read_rows-requires c = ((file c.before).0, (file c.before).1)
+read_rows-requires c = ((file (goal.at.read_rows-requires c).In-Whole).0, (file (goal.at.read_rows-requires c).In-Whole).1)
 
 pub returns-in-Broken : goal.returns-in-Broken
 unfolding read file_read
@@ -23,4 +23,4 @@ returns-in-Broken c =
 
 pub returns-in-Whole : goal.returns-in-Whole
 unfolding read file_read
-returns-in-Whole c = c.read_rows.ensures ∙ ap (λ (x : Scan). reading_of (scan_row x) (read_scan x)) (sym (file c.before.before).2)
+returns-in-Whole c = c.read_rows.ensures ∙ ap (λ (x : Scan). reading_of (scan_row x) (read_scan x)) (sym (file (goal.at.returns-in-Whole c).In-Whole).2)

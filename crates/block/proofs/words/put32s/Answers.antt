@@ -14,7 +14,7 @@ loop-i-preserved c =
     let l = c.loop-i in
     let a = c.args in
     let p = c.put32 in
-    (search rules, p.auto.0 ∙ l.invariant.1, put_more form32 a.b.now a.a.now a.at (a.at + 4 * l.i) l.i (omega arith) (omega arith) l.invariant.2 p.ensures.stored)
+    (search rules, p.auto.b ∙ l.invariant.1, put_more form32 a.b.now a.a.now a.at (a.at + 4 * l.i) l.i (omega arith) (omega arith) l.invariant.2 p.ensures.stored)
 
 pub returns : goal.returns
 returns c =

@@ -14,7 +14,7 @@ loop-i-preserved c =
     let l = c.loop-i in
     let a = c.args in
     let p = c.put_u8 in
-    (search rules, p.auto.0 ∙ l.invariant.1, put_more form8 a.b.now a.a.now a.at (a.at + l.i) l.i (omega arith) (omega arith) l.invariant.2 p.ensures)
+    (search rules, p.auto.s ∙ l.invariant.1, put_more form8 a.b.now a.a.now a.at (a.at + l.i) l.i (omega arith) (omega arith) l.invariant.2 p.ensures)
 
 pub returns : goal.returns
 returns c =

@@ -4,14 +4,8 @@ use Rattle.block.specs.Layout.{jobs_bytes}
 use Rattle.block.proofs.Arrays.{put_then, put_to}
 use Rattle.block.proofs.writing.put_jobs.Goals as goal
 
-pub put16s-requires : goal.put16s-requires
-put16s-requires c = omega (arith, slice-aggregate-put16s c)
-
-pub put32s-requires : goal.put32s-requires
-put32s-requires c = omega (arith, slice-aggregate-put32s c)
-
 pub returns : goal.returns
 unfolding jobs_bytes
 returns c =
-    put_then c.put16s.ensures (omega (arith, slice-aggregate-put16s c.before.before.before.before.before.before.before.before))
-    (put_to c.put32s.ensures (omega (arith, slice-aggregate-put32s c.before.before.before)))
+    put_then c.put16s.ensures (omega arith)
+    (put_to c.put32s.ensures (omega arith))

@@ -3,8 +3,5 @@ use Rattle.std.proofs.Common.{arith}
 use Rattle.block.proofs.Arrays.{put_to}
 use Rattle.block.proofs.writing.put_margins.Goals as goal
 
-pub put16s-requires : goal.put16s-requires
-put16s-requires c = omega (arith, slice-aggregate-put16s c)
-
 pub returns : goal.returns
-returns c = put_to c.put16s.ensures (omega (arith, slice-aggregate-put16s c.before.before.before))
+returns c = put_to c.put16s.ensures (omega arith)

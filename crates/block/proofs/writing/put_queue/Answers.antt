@@ -4,18 +4,9 @@ use Rattle.block.specs.Layout.{queue_bytes}
 use Rattle.block.proofs.Arrays.{put_then, put_to}
 use Rattle.block.proofs.writing.put_queue.Goals as goal
 
-pub put16s-requires : goal.put16s-requires
-put16s-requires c = omega (arith, slice-aggregate-put16s c)
-
-pub put16s-requires-2 : goal.put16s-requires-2
-put16s-requires-2 c = omega (arith, slice-aggregate-put16s-2 c)
-
-pub put32s-requires : goal.put32s-requires
-put32s-requires c = omega (arith, slice-aggregate-put32s c)
-
 pub returns : goal.returns
 unfolding queue_bytes
 returns c =
-    put_then c.put16s.ensures (omega (arith, slice-aggregate-put16s c.before.before.before.before.before.before.before.before.before.before.before.before.before))
-    (put_then c.put16s-2.ensures (omega (arith, slice-aggregate-put16s-2 c.before.before.before.before.before.before.before.before))
-    (put_to c.put32s.ensures (omega (arith, slice-aggregate-put32s c.before.before.before))))
+    put_then c.put16s.ensures (omega arith)
+    (put_then c.put16s-2.ensures (omega arith)
+    (put_to c.put32s.ensures (omega arith)))

@@ -2,4 +2,4 @@
 use Rattle.dispatch.proofs.steps.advance.Goals as goal
 
 pub returns : goal.returns
-returns c = rw (c.stamped-stamps.ensures, c.known_rows.ensures, c.aged_rows.ensures, c.wrapping_add_u32-clock.ensures)
+returns c = rw (c.stamped-stamps.ensures, c.known_rows.ensures, c.aged_rows.ensures, c.wrapping_add_u32-clock.ensures.value)

@@ -25,7 +25,7 @@ loop-w-init c =
     (omega arith, omega (arith, c.wide-c.ensures.0), turn_start (above_of a.tb a.i) (table_row a.tb a.i) c.wide-c.result c.wide-c.ensures.0)
 
 pub overflow_add-rounds : goal.overflow_add-rounds
-overflow_add-rounds c = let r = row c.before in omega (arith, c.wide-c.ensures.0)
+overflow_add-rounds c = let r = row (goal.at.overflow_add-rounds c).At-loop-w in omega (arith, c.wide-c.ensures.0)
 
 pub demand-requires : goal.demand-requires
 demand-requires c =
@@ -37,7 +37,7 @@ loop-w-preserved c =
     let a = c.args in
     let w = c.wide-c.ensures.0 in
     let d = c.wide-d.ensures.0 in
-    let e = value c.before in (
+    let e = value (goal.at.loop-w-preserved c).After-demand in (
       omega arith,
       rw e (add-le-add (le_refl _) (demand_mono a.tb a.i l.w _ l.invariant.1 (λ j h. c.requires.1 j (omega arith)))),
       l.invariant.2 ∙ turn_goes_on (above_of a.tb a.i) (table_row a.tb a.i) l.rounds l.w _ (omega arith) (omega arith) e c.if-v-w.false,
@@ -56,4 +56,4 @@ returns-then-v-w c =
     let a = c.args in
     let w = c.wide-c.ensures.0 in
     let d = c.wide-d.ensures.0 in
-    sym (ap bound_of (l.invariant.2 ∙ turn_repeats (above_of a.tb a.i) (table_row a.tb a.i) l.rounds l.w _ (omega arith) (omega arith) (value c.before) c.if-v-w.true))
+    sym (ap bound_of (l.invariant.2 ∙ turn_repeats (above_of a.tb a.i) (table_row a.tb a.i) l.rounds l.w _ (omega arith) (omega arith) (value (goal.at.returns-then-v-w c).After-demand) c.if-v-w.true))

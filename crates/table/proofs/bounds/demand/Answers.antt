@@ -20,13 +20,13 @@ term c = term_le _ _ _ c.requires.1 (positive c.before) c.wide.ensures.1
 -- div-sum c = positive c
 
 pub overflow_sub-sum : goal.overflow_sub-sum
-overflow_sub-sum c = positive c
+overflow_sub-sum c = positive (goal.at.overflow_sub-sum c).After-wide-period
 
 pub overflow_mul-sum : goal.overflow_mul-sum
-overflow_mul-sum c = omega (arith, term c)
+overflow_mul-sum c = omega (arith, term (goal.at.overflow_mul-sum c).After-wide)
 
 pub overflow_add-sum-in-loop-j : goal.overflow_add-sum-in-loop-j
-overflow_add-sum-in-loop-j c = omega (arith, term c)
+overflow_add-sum-in-loop-j c = omega (arith, term (goal.at.overflow_add-sum-in-loop-j c).After-wide)
 
 pub loop-j-preserved : goal.loop-j-preserved
 loop-j-preserved c =
@@ -34,7 +34,7 @@ loop-j-preserved c =
     let l = c.loop-j in (
       omega arith,
       cc (asked_next a.tb.c a.tb.t a.w l.j),
-      omega (arith, term c),
+      omega (arith, term (goal.at.loop-j-preserved c).After-wide),
     )
 
 pub returns : goal.returns

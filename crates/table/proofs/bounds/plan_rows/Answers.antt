@@ -24,7 +24,7 @@ pub returns-then-wide : goal.returns-then-wide
 returns-then-wide c =
     let l = c.loop-i in
     let tb = c.args.tb in
-    c.unplanned.ensures ∙ margin_fails tb l.i l.r l.u l.rounds l.invariant.1 (omega arith) (found c.before.before.before.before.before.before.before.before) (omega arith)
+    c.unplanned.ensures ∙ margin_fails tb l.i l.r l.u l.rounds l.invariant.1 (omega arith) (found (goal.at.returns-then-wide c).In-Found) (omega arith)
 
 pub promotion_time-requires : goal.promotion_time-requires
 promotion_time-requires c = omega arith
@@ -34,7 +34,7 @@ loop-i-preserved c =
     let l = c.loop-i in
     (
       omega arith,
-      one_more_planned c.args.tb l.i l.r l.u l.rounds l.invariant.1 (omega arith) c.requires.0 (found c.before.before.before.before.before.before.before.before.before.before) (omega arith) c.promotion_time.ensures,
+      one_more_planned c.args.tb l.i l.r l.u l.rounds l.invariant.1 (omega arith) c.requires.0 (found (goal.at.loop-i-preserved c).In-Found) (omega arith) c.promotion_time.ensures,
     )
 
 pub returns-in-PassesD : goal.returns-in-PassesD

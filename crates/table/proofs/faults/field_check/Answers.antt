@@ -35,7 +35,7 @@ returns-in-Failed c =
     (sym c.row_check.ensures ∙ c.in-Failed.is))
 
 pub returns-then-rows-i : goal.returns-then-rows-i
-returns-then-rows-i c = sym (asked c.before.before.before ∙ ap (zeroFound c.before.before.before) c.if-rows-i.true)
+returns-then-rows-i c = sym (asked (goal.at.returns-then-rows-i c).In-Passed ∙ ap (zeroFound (goal.at.returns-then-rows-i c).In-Passed) c.if-rows-i.true)
 
 pub returns-else-rows-i : goal.returns-else-rows-i
-returns-else-rows-i c = sym (asked c.before.before.before ∙ ap (zeroFound c.before.before.before) c.if-rows-i.false)
+returns-else-rows-i c = sym (asked (goal.at.returns-else-rows-i c).In-Passed ∙ ap (zeroFound (goal.at.returns-else-rows-i c).In-Passed) c.if-rows-i.false)

@@ -10,9 +10,9 @@ use Rattle.wire.specs.Field.{field_check}
 use Rattle.table.specs.Answers.{is_row_tag}
 use Rattle.table.proofs.Fields.{bad_found, row_found, end_found}
 use Rattle.table.proofs.scan.field_of.Goals as goal
-use Rattle.table.proofs.scan.field_of.Goals.{After-check_field, After-is_row-row}
+use Rattle.table.proofs.scan.field_of.Goals.{After-check_field}
 
-row : (c : After-is_row-row) → c.is_row-row.result ≡ is_row c.args.s.now
+row : (c : After-check_field) → c.is_row-row.result ≡ is_row c.args.s.now
 row c = c.is_row-row.ensures ∙ ap is_row_tag c.tag_of-tag.ensures
 
 -- the check of the field
@@ -23,20 +23,20 @@ checked c =
     sym
     (c.check_field.ensures
     ∙ ap (λ (v : Option ℕ). field_check v (c.is_row-row.result && a.full) a.s.now) c.value_length.ensures
-    ∙ ap (λ (b : Bool). field_check (table_length c.tag_of-tag.result) (b && a.full) a.s.now) (row c.before.before)
+    ∙ ap (λ (b : Bool). field_check (table_length c.tag_of-tag.result) (b && a.full) a.s.now) (row c)
     ∙ ap (λ (t : ℕ). field_check (table_length t) (is_row a.s.now && a.full) a.s.now) c.tag_of-tag.ensures)
 
 pub returns-in-Bad : goal.returns-in-Bad
 returns-in-Bad c =
     let a = c.args in
-    bad_found a.full a.s.now (checked c.before.before.before ∙ c.in-Bad.is)
+    bad_found a.full a.s.now (checked (goal.at.returns-in-Bad c).After-check_field ∙ c.in-Bad.is)
 
 pub returns-then-row : goal.returns-then-row
 returns-then-row c =
     let a = c.args in
-    row_found a.full a.s.now (checked c.before.before.before.before ∙ c.in-Whole.is) (sym (row c.before.before.before.before.before.before) ∙ c.if-row.true)
+    row_found a.full a.s.now (checked (goal.at.returns-then-row c).After-check_field ∙ c.in-Whole.is) (sym (row (goal.at.returns-then-row c).After-check_field) ∙ c.if-row.true)
 
 pub returns-else-row : goal.returns-else-row
 returns-else-row c =
     let a = c.args in
-    end_found a.full a.s.now (checked c.before.before.before.before ∙ c.in-Whole.is) (sym (row c.before.before.before.before.before.before) ∙ c.if-row.false)
+    end_found a.full a.s.now (checked (goal.at.returns-else-row c).After-check_field ∙ c.in-Whole.is) (sym (row (goal.at.returns-else-row c).After-check_field) ∙ c.if-row.false)

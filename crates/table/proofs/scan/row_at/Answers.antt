@@ -1,33 +1,34 @@
 -- `table::scan::row_at` meets its contract: the tag and the numbers where they stand. Assumes nothing.
 -- both forms have the ten bytes up to the rank
-use Prim.Native.Nat.{◌+◌, ◌≤◌}
+use Prim.Native.Nat.{ℕ, ◌+◌, ◌≤◌}
+use mathlib.Core.List.{List}
 use mathlib.Core.Path.{sym, ◌∙◌}
 use native.Mathlib.Omega.{arith}
 use lib.ListN.{length}
 use lib.Seq.{get_or-drop}
+use Rattle.rules.specs.File.{size_of}
 use Rattle.table.specs.Walk.{tag_at}
 use Rattle.table.proofs.Rows.{word_drop}
 use Rattle.table.proofs.Walked.{size_within, tag_at_lem}
 use Rattle.table.proofs.scan.row_at.Goals as goal
-use Rattle.table.proofs.scan.row_at.Goals.{Start}
 
-ten-stand : (c : Start) → c.args.at + 10 ≤ length c.args.s.now
-ten-stand c = omega (arith, c.requires, (size_within (tag_at c.args.s.now c.args.at)).0)
+ten_stand : (s : List ℕ) (at : ℕ) → at + size_of (tag_at s at) ≤ length s → at + 10 ≤ length s
+ten_stand s at h = omega (arith, h, (size_within (tag_at s at)).0)
 
 pub bounds-s-at : goal.bounds-s-at
-bounds-s-at c = omega (arith, ten-stand c.before.before)
+bounds-s-at c = omega (arith, ten_stand c.args.s.now c.args.at c.requires)
 
 pub get_u16-requires : goal.get_u16-requires
-get_u16-requires c = omega (arith, ten-stand c.before.before)
+get_u16-requires c = omega (arith, ten_stand c.args.s.now c.args.at c.requires)
 
 pub get_u16-requires-2 : goal.get_u16-requires-2
-get_u16-requires-2 c = omega (arith, ten-stand c.before.before.before)
+get_u16-requires-2 c = omega (arith, ten_stand c.args.s.now c.args.at c.requires)
 
 pub get_u16-requires-3 : goal.get_u16-requires-3
-get_u16-requires-3 c = omega (arith, ten-stand c.before.before.before.before)
+get_u16-requires-3 c = omega (arith, ten_stand c.args.s.now c.args.at c.requires)
 
 pub bounds-s-at-2 : goal.bounds-s-at-2
-bounds-s-at-2 c = omega (arith, ten-stand c.before.before.before.before.before.before)
+bounds-s-at-2 c = omega (arith, ten_stand c.args.s.now c.args.at c.requires)
 
 pub returns : goal.returns
 returns c =

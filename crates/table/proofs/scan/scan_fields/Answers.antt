@@ -26,13 +26,13 @@ pub overflow_add-at : goal.overflow_add-at
 overflow_add-at c =
     let l = c.loop-size in
     let s = c.args.s.now in
-    omega (arith, (row_fits s l.at l.n (field c.before.before.before ∙ c.in-Row.is) l.invariant.0 l.invariant.1).1)
+    omega (arith, (row_fits s l.at l.n (field (goal.at.overflow_add-at c).After-field_of ∙ c.in-Row.is) l.invariant.0 l.invariant.1).1)
 
 pub loop-size-preserved : goal.loop-size-preserved
 loop-size-preserved c =
     let l = c.loop-size in
     let s = c.args.s.now in
-    let e = field c.before.before.before ∙ c.in-Row.is in
+    let e = field (goal.at.loop-size-preserved c).After-field_of ∙ c.in-Row.is in
     let h = row_fits s l.at l.n e l.invariant.0 l.invariant.1 in
     (omega (arith, h.0), omega (arith, h.1), row_turn s l.at l.n l.invariant.0 _ l.invariant.2 e h.0)
 
@@ -40,22 +40,22 @@ pub overflow_sub-out-else-s-at-eq-END_BYTES : goal.overflow_sub-out-else-s-at-eq
 overflow_sub-out-else-s-at-eq-END_BYTES c =
     let l = c.loop-size in
     let s = c.args.s.now in
-    omega (arith, end_fits (eqb l.n 16) (drop l.at s) (field c.before.before.before ∙ c.in-End.is), length-drop l.at s)
+    omega (arith, end_fits (eqb l.n 16) (drop l.at s) (field (goal.at.overflow_sub-out-else-s-at-eq-END_BYTES c).After-field_of ∙ c.in-End.is), length-drop l.at s)
 
 pub returns-then-s-at-eq-END_BYTES : goal.returns-then-s-at-eq-END_BYTES
 returns-then-s-at-eq-END_BYTES c =
     let l = c.loop-size in
     let s = c.args.s.now in
-    end_turn s l.at l.n l.invariant.0 _ l.invariant.2 (field c.before.before.before ∙ c.in-End.is) c.if-s-at-eq-END_BYTES.true
+    end_turn s l.at l.n l.invariant.0 _ l.invariant.2 (field (goal.at.returns-then-s-at-eq-END_BYTES c).After-field_of ∙ c.in-End.is) c.if-s-at-eq-END_BYTES.true
 
 pub returns-else-s-at-eq-END_BYTES : goal.returns-else-s-at-eq-END_BYTES
 returns-else-s-at-eq-END_BYTES c =
     let l = c.loop-size in
     let s = c.args.s.now in
-    after_end_turn s l.at l.n l.invariant.0 _ l.invariant.2 (field c.before.before.before ∙ c.in-End.is) c.if-s-at-eq-END_BYTES.false
+    after_end_turn s l.at l.n l.invariant.0 _ l.invariant.2 (field (goal.at.returns-else-s-at-eq-END_BYTES c).After-field_of ∙ c.in-End.is) c.if-s-at-eq-END_BYTES.false
 
 pub returns-in-Bad : goal.returns-in-Bad
 returns-in-Bad c =
     let l = c.loop-size in
     let s = c.args.s.now in
-    bad_turn s l.at l.n l.invariant.0 _ l.invariant.2 (field c.before.before.before ∙ c.in-Bad.is)
+    bad_turn s l.at l.n l.invariant.0 _ l.invariant.2 (field (goal.at.returns-in-Bad c).After-field_of ∙ c.in-Bad.is)

@@ -38,7 +38,7 @@ pub returns : goal.returns
 returns c =
     let l = c.loop-i in
     let a = c.args in
-    let all : l.i ≡ a.tb.n = omega arith in (
-      l.invariant.2 ∙ ap (λ (k : ℕ). length (rows_bytes (indexed (table_row a.tb) 0 k))) all,
-      l.invariant.3 ∙ ap (λ (k : ℕ). sets a.out.now 0 (rows_bytes (indexed (table_row a.tb) 0 k))) all,
-    )
+    let all : l.i ≡ a.tb.n = omega arith in record {
+      value = l.invariant.2 ∙ ap (λ (k : ℕ). length (rows_bytes (indexed (table_row a.tb) 0 k))) all;
+      out_after = l.invariant.3 ∙ ap (λ (k : ℕ). sets a.out.now 0 (rows_bytes (indexed (table_row a.tb) 0 k))) all;
+    }

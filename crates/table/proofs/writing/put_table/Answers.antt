@@ -15,7 +15,7 @@ pub returns-then-out-size : goal.returns-then-out-size
 returns-then-out-size c =
     let a = c.args in
     let e = put_short (file_bytes (rows_of a.tb)) a.out.now c.file_size-size.result (sym c.file_size-size.ensures) c.if-out-size.true in
-    (ap written_of (sym e), ap (output_after a.out.now) (sym e))
+    record { value = ap written_of (sym e); out_after = ap (output_after a.out.now) (sym e) }
 
 pub put_rows-end-requires : goal.put_rows-end-requires
 put_rows-end-requires c =
@@ -23,15 +23,16 @@ put_rows-end-requires c =
 
 pub put_header-requires : goal.put_header-requires
 put_header-requires c =
-    let kept : length c.put_rows-end.new.out.0 ≡ length c.args.out.now = c.put_rows-end.auto.out.0 in
-    omega (arith, kept, c.put_rows-end.ensures.0, c.if-out-size.false, c.file_size-size.ensures, length_file (rows_of c.args.tb))
+    let kept : length c.put_rows-end.new.out ≡ length c.args.out.now = c.put_rows-end.auto.out in
+    omega (arith, kept, c.put_rows-end.ensures.value, c.if-out-size.false, c.file_size-size.ensures, length_file (rows_of c.args.tb))
 
 pub returns : goal.returns
 returns c =
     let a = c.args in
-    let e = put_fits (file_bytes (rows_of a.tb)) a.out.now c.file_size-size.result (sym c.file_size-size.ensures) c.if-out-size.false in (
-      ap written_of (sym e),
-      stored_then (rows_bytes (rows_of a.tb)) (file_bytes []) a.out.now 0 c.put_rows-end.result c.put_rows-end.ensures.1 (omega (arith, c.put_rows-end.ensures.0)) c.put_header.ensures
+    let e = put_fits (file_bytes (rows_of a.tb)) a.out.now c.file_size-size.result (sym c.file_size-size.ensures) c.if-out-size.false in record {
+      value = ap written_of (sym e);
+      out_after =
+          stored_then (rows_bytes (rows_of a.tb)) (file_bytes []) a.out.now 0 c.put_rows-end.result c.put_rows-end.ensures.out_after (omega (arith, c.put_rows-end.ensures.value)) c.put_header.ensures
           ∙ ap (sets a.out.now 0) (file_bytes_lem (rows_of a.tb))
-          ∙ ap (output_after a.out.now) (sym e),
-    )
+          ∙ ap (output_after a.out.now) (sym e);
+    }
