@@ -3,7 +3,9 @@
 
 mod lines;
 
-ghost use Rattle.std.specs.Prelude.{◌≡◌, ◌≤◌, length, IfOk};
+ghost use Rattle.std.specs.Prelude.{◌≡◌, ◌<◌, IfOk, length, take};
+ghost use Rattle.std.specs.Io.{ReadsAtMost};
+ghost use Rattle.std.specs.Io.KnownBytes.{Consumes, IsAtEnd};
 ghost use Rattle.dispatch.specs.Steps.{tick_in};
 ghost use Rattle.offer.specs.Steps.{offer_made};
 
@@ -32,7 +34,7 @@ fn main(rt: HostRuntime) -> io::Result<()> {
 
 // How many bytes of a file are put at the front of the buffer, as far as it goes.
 fn load<R: Files>(rt: &R, path: &str, buffer: &mut [u8]) -> io::Result<usize>
-    ensures { IfOk result (λ n. n ≤ length buffer.new) }
+    ensures { ReadsAtMost result buffer.new }
 {
     match File::open(rt, path) {
         Ok(mut file) => fill(&mut file, buffer),
@@ -42,13 +44,15 @@ fn load<R: Files>(rt: &R, path: &str, buffer: &mut [u8]) -> io::Result<usize>
 
 // How many bytes are put at the front of the buffer: reads go on until the input ends or the buffer is full.
 fn fill<R: Read>(reader: &mut R, buffer: &mut [u8]) -> io::Result<usize>
-    ensures { IfOk result (λ n. n ≤ length buffer.new) }
+    ensures bound { ReadsAtMost result buffer.new }
+    ensures bytes { IfOk result (λ n. Consumes (R.remaining reader.old) (R.remaining reader.new) (take n buffer.new)) }
+    ensures end { IfOk result (λ n. n < length buffer.new → IsAtEnd (R.remaining reader.new)) }
 {
     let mut n = 0;
     while n < buffer.len() {
         let more = reader.read(&mut buffer[n..])?;
         if more == 0 {
-            break;
+            return Ok(n);
         }
         n += more;
     }
@@ -116,7 +120,7 @@ fn run_events<'a>(
     }
 }
 
-// A tick, and its lines; the state after it, also where a line can't be printed.
+// A tick; the state after it, also where a line can't be printed.
 fn tick(
     rt: &impl Print,
     rows: Rows,
