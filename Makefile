@@ -1,6 +1,7 @@
 # The C side. What is built lands under target/.
 #
 #   make lib                  prove the library and write it as an archive
+#   make programs             prove and build plan and run, in target/bin
 #   make example              build the example and run it
 #   make needs                what the library asks of a board: symbols, registers, stack
 #   make test-c               the C tests and the example: plain, under sanitizers, under valgrind; the example as C++; make needs
@@ -38,11 +39,12 @@ PROGRAMS = answers answers-sanitized kernel kernel-sanitized kernel-cpp readme p
 
 SHELL = bash
 .SHELLFLAGS = -euo pipefail -c
-.PHONY: lib example needs shim test-c install test-install clean
+.PHONY: lib programs example needs shim test-c install test-install clean
 .DELETE_ON_ERROR:
 
 # What the goals run, looked for before anything is made.
 TOOLS_lib = rt
+TOOLS_programs = rt
 TOOLS_example = rt $(CC) $(firstword $(EMULATOR))
 TOOLS_shim = rt $(CC)
 TOOLS_needs = rt $(NM) $(OBJDUMP)
@@ -53,14 +55,22 @@ $(error tools are missing)
 endif
 
 lib: $(LIB)
+programs: target/bin/plan target/bin/run
 shim: $(OUT)/shim
 
 example: $(OUT)/kernel
 	@$(EMULATOR) $(OUT)/kernel
 
-target/staticlib/libboard.a: crates.txt $(shell find crates -type f)
-	rt staticlib board
-	touch $@
+SOURCES := crates.txt $(shell find crates -type f -not -path '*/out/*')
+
+target/staticlib/libboard.a: $(SOURCES)
+	cd crates/board && rt lib
+	install -D -m 644 crates/board/out/libboard.a $@
+
+# What builds a program runs it too: on no input here.
+target/bin/%: $(SOURCES)
+	cd crates/$* && rt run < /dev/null > /dev/null
+	install -D crates/$*/out/$* $@
 
 $(OUT):
 	mkdir -p $@

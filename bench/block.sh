@@ -3,7 +3,7 @@
 set -euo pipefail
 cd "$(dirname "$0")/.."
 mkdir -p target/bench
-rt staticlib board > target/bench/board.out 2>&1 || { cat target/bench/board.out; exit 1; }
+make lib > target/bench/board.out 2>&1 || { cat target/bench/board.out; exit 1; }
 rustc --edition 2021 -C opt-level=3 bench/block/main.rs -o target/bench/block -L target/staticlib -l static=board
 if [ "${1:-}" != count ]; then
     exec target/bench/block

@@ -1,5 +1,5 @@
 #!/usr/bin/env bash
-# Counts the instructions of plan on each table of bench/plan: counts repeat exactly, seconds do not. Needs valgrind, and target/bin/plan (rt check plan).
+# Counts the instructions of plan on each table of bench/plan: counts repeat exactly, seconds do not. Needs valgrind, and target/bin/plan (make programs).
 set -euo pipefail
 cd "$(dirname "$0")/.."
 for table in bench/plan/*.bin; do

@@ -30,10 +30,9 @@
  * - changes what that convention lets a function change, so save it: rax, rcx, rdx, rsi, rdi, r8 to r11, the flags,
  *   xmm0 to xmm15, the flags of mxcsr. It uses no wider vector register and no x87 or MMX register;
  * - wants every exception of mxcsr masked, as 0x1f80 has it;
- * - uses the red zone, the 128 bytes below the stack pointer. So an interrupt that may come during a call, to whichever
- *   function, has a stack of its own, or is held off;
- * - takes at most HEECHSTJER_STACK_BYTES of stack, return address and red zone included, beside what memcpy takes;
- * - needs memcpy from you or your compiler's library, and no other symbol.
+ * - keeps nothing below the stack pointer: the red zone, the 128 bytes there, is free for an interrupt's frame;
+ * - takes at most HEECHSTJER_STACK_BYTES of stack, return address included, beside what memcpy and memset take;
+ * - needs memcpy and memset from you or your compiler's library, and no other symbol.
  *
  * The header needs C99 or C++11 and no library: its three includes are there on a board without one.
  */

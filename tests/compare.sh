@@ -10,6 +10,6 @@ root=$(cd "$(dirname "$0")/.." && pwd)
 cd "$root"
 . tests/machine.sh
 mkdir -p target
-{ rt check plan run && make shim; } > target/compare.out 2>&1 || { cat target/compare.out; exit 1; }
+make programs shim > target/compare.out 2>&1 || { cat target/compare.out; exit 1; }
 export CARGO_TARGET_DIR="$root/target/cargo"
 exec cargo run --offline --quiet --manifest-path "$root/tests/compare/Cargo.toml" -- "$@"

@@ -1,7 +1,7 @@
 #!/usr/bin/env bash
 # Holds every public function of the libraries to one possible result. Each `ensures` clause must be an equation: of the result, of all
-# fields of the result, or of a lent output at exit. A result needs one, and so does every `&mut`. For each equation the crate's
-# proofs/OneResult.antt must state, under the function's name, One (right side), with x for `now (x .entry)` and for `x .entry`.
+# fields of the result, or of what a `&mut` holds at the return. A result needs one, and so does every `&mut`. For each equation the
+# crate's proofs/OneResult.antt must state, under the function's name and _lem, One (right side), with x for the `x.now`, `x.old` and `x.entry` of a parameter.
 # The programs are left out; docs/promises.md says why.
 set -euo pipefail
 shopt -s inherit_errexit
@@ -15,7 +15,9 @@ public_functions() {
     for module in lib $(sed -nE 's/^pub mod ([a-z0-9_]+);.*/\1/p' "$1/src/lib.rt"); do
         sed -nE "s/^ *pub (extern \"C\" )?fn ([a-z0-9_]+).*/$module \2/p" "$1/src/$module.rt"
     done
-    sed -nE 's/^pub use ([a-z0-9_]+)::([^A-Z][^;]*);.*/\1 \2/p' "$1/src/lib.rt"
+    sed -nE 's/^pub use ([a-z0-9_]+)::\{?([^;}]*)\}?;.*/\1 \2/p' "$1/src/lib.rt" | while read -r module names; do
+        tr -d ' ' <<< "$names" | tr ',' '\n' | sed -nE "s/^([a-z].*)/$module \1/p"
+    done
 }
 
 refuse() {
@@ -23,33 +25,36 @@ refuse() {
     refused=1
 }
 
-# An equation of $1, with the right side $2, in a clause that calls the result $3.
+# An equation of $1, with the right side $2.
 equation() {
     local right
-    right=$(sed -E 's/now \(([^ ()]+) \.entry\)/\1/g; s/\(([^ ()]+)\)/\1/g; s/ \.entry//g' <<< "$2")
-    case " ${right//[()]/ } " in *" $3 "* | *" .exit "*) refuse "speaks on both sides of what the call gives: $2" ;; esac
-    case "$stated" in *"One ($right)"*) ;; *) refuse "not in proofs/OneResult.antt: One ($right)" ;; esac
+    right=$(sed -E 's/(^|[^a-z0-9_.])([a-z0-9_]+)\.(now|old)/\1\2/g; s/\.entry//g' <<< "$2")
+    case " ${right//[().]/ } " in *" result "* | *" new "*) refuse "speaks on both sides of what the call gives: $2" ;; esac
+    case "$stated" in
+        *"One ($right) "*) ;;
+        *"One $right "*) [[ $right =~ ^(\(.*\)\.)?[a-z_.]+$ ]] || refuse "not one argument of One: $right" ;;
+        *) refuse "not in proofs/OneResult.antt: One ($right)" ;;
+    esac
     equated="$equated $1"
 }
 
 clause() {
-    local r body part fields=
-    [[ $1 =~ ^ensures\ \{\ λ\ ([a-z_]+)\.\ ⌜\ (.+)\ ⌝\ \}$ ]] || { refuse "not read: $1"; return; }
-    r=${BASH_REMATCH[1]}
+    local body part fields=
+    [[ $1 =~ ^ensures\ ([a-z_]+\ )?\{\ (.+)\ \}$ ]] || { refuse "not read: $1"; return; }
     body=${BASH_REMATCH[2]}
-    if [[ $body =~ ^(now\ )?$r\ ≡\ (.+)$ ]]; then
-        equation result "${BASH_REMATCH[2]}" "$r"
-    elif [[ $body =~ ^now\ \(([a-z0-9_]+)\ \.exit\)\ ≡\ (.+)$ ]]; then
-        equation "${BASH_REMATCH[1]}.exit" "${BASH_REMATCH[2]}" "$r"
+    if [[ $body =~ ^result(\.now)?\ ≡\ (.+)$ ]]; then
+        equation result "${BASH_REMATCH[2]}"
+    elif [[ $body =~ ^([a-z0-9_]+)\.new\ ≡\ (.+)$ ]]; then
+        equation "${BASH_REMATCH[1]}.new" "${BASH_REMATCH[2]}"
     else
-        while read -r part && [[ $part =~ ^$r\ \.([a-z0-9_]+)\ ≡\ (.+)$ ]]; do
+        while read -r part && [[ $part =~ ^result\.([a-z0-9_]+)\ ≡\ (.+)$ ]]; do
             fields="$fields${BASH_REMATCH[1]} "
-            equation field "${BASH_REMATCH[2]}" "$r"
+            equation field "${BASH_REMATCH[2]}"
         done < <(sed -E 's/^\((.*)\)$/\1/; s/\) × \(/\n/g' <<< "$body")
         if [ -n "$fields" ] && [ "$fields" = "$(fields_of "$type")" ]; then
             equated="$equated result"
         else
-            refuse "not an equation of the result, of all its fields or of an exit: $1"
+            refuse "not an equation of the result, of all its fields or of what is lent: $1"
         fi
     fi
 }
@@ -58,7 +63,7 @@ fields_of() {
     sed -nE "/^pub struct $1\>/,/^}/s/^ +(pub )?([a-z0-9_]+):.*/\2/p" "$crate"/src/*.rt | tr '\n' ' '
 }
 
-for crate in $(sed -nE 's/^([a-z0-9_]+):.*/\1/p' ../crates.txt | grep -vxE 'plan|run'); do
+for crate in $(sed -nE 's/^([a-z0-9_]+)( staticlib)?:.*/\1/p' ../crates.txt | grep -vxE 'plan|run'); do
     functions=$(public_functions "$crate")
     while read -r module name; do
         [ -n "$name" ] || continue
@@ -69,12 +74,12 @@ for crate in $(sed -nE 's/^([a-z0-9_]+):.*/\1/p' ../crates.txt | grep -vxE 'plan
         [ -n "$heading" ] || refuse "not found in src/$module.rt"
         signature=$(sed -E '/^ *(requires|ensures) /,$d' <<< "$heading" | tr '\n' ' ')
         type=$(sed -nE 's/.*\) -> ([^ <]+).*/\1/p' <<< "$signature")
-        stated=$(awk -v f="pub ${name//_/-} :" '/^pub / { on = index($0, f) == 1 }
+        stated=$(awk -v f="pub ${name}_lem :" '/^pub / { on = index($0, f) == 1 }
             on && !/^ *--/ { print }' "$crate/proofs/OneResult.antt" | tr -s ' \n' ' ')
         while read -r line; do
             case "$line" in ensures*) clause "$line" ;; esac
         done <<< "$heading"
-        for part in ${type:+result} $(grep -oE "[a-z0-9_]+: &('[a-z]+ )?mut " <<< "$signature" | sed 's/:.*/.exit/'); do
+        for part in ${type:+result} $(grep -oE "[a-z0-9_]+: &('[a-z]+ )?mut " <<< "$signature" | sed 's/:.*/.new/'); do
             case " $equated " in *" $part "*) ;; *) refuse "no equation of $part" ;; esac
         done
         count=$((count + 1))

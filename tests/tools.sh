@@ -40,7 +40,7 @@ status=0
 for tool; do
     is_missing "$tool" || continue
     case $tool in
-    rt) has="the Rattle kit rattle-kit-5b, which is no Debian package" ;;
+    rt) has="the Rattle kit rattle-kit-13f, which is no Debian package" ;;
     cargo) has="Rust's own; Debian 12 has one that is too old" ;;
     *) has="Debian: $(packages "$tool")" ;;
     esac

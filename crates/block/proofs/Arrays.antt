@@ -83,9 +83,9 @@ module _ {read : List ℕ → ℕ → ℕ} {bytes : ℕ → List ℕ} {w most : 
   read_joined (x ∷ xs) q h =
       let head : read (bytes x ++ (joined bytes xs ++ q)) (w * 0) ≡ x = ap (read (bytes x ++ (joined bytes xs ++ q))) (mul-zero w) ∙ F.back x (joined bytes xs ++ q) (h 0) in
       let tail : rows_from (λ i. read (bytes x ++ (joined bytes xs ++ q)) (w * i)) 1 (length xs) ≡ xs =
-          sym (shift_rows (λ i. read (bytes x ++ (joined bytes xs ++ q)) (w * i)) (λ i. read (bytes x ++ (joined bytes xs ++ q)) (w * suc i)) 0 (length xs) (λ i. refl))
-          ∙ same_rows (λ i. read (joined bytes xs ++ q) (w * i)) (λ i. read (bytes x ++ (joined bytes xs ++ q)) (w * suc i)) 0 (length xs) (λ i l m. next x (joined bytes xs ++ q) i)
-          ∙ read_joined xs q (λ i. h (suc i)) in
+      sym (shift_rows (λ i. read (bytes x ++ (joined bytes xs ++ q)) (w * i)) (λ i. read (bytes x ++ (joined bytes xs ++ q)) (w * suc i)) 0 (length xs) (λ i. refl))
+      ∙ same_rows (λ i. read (joined bytes xs ++ q) (w * i)) (λ i. read (bytes x ++ (joined bytes xs ++ q)) (w * suc i)) 0 (length xs) (λ i l m. next x (joined bytes xs ++ q) i)
+      ∙ read_joined xs q (λ i. h (suc i)) in
       ap (λ l. rows_from (λ i. read l (w * i)) 0 (suc (length xs))) (append_assoc (bytes x) (joined bytes xs) q)
       ∙ ap (λ y. y ∷ rows_from (λ i. read (bytes x ++ (joined bytes xs ++ q)) (w * i)) 1 (length xs)) head
       ∙ ap (λ l. x ∷ l) tail

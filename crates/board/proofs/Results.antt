@@ -8,7 +8,7 @@ use native.Mathlib.Omega.{arith}
 use lib.Dec.{eqb, leb}
 use borrow.Author.Tests.{eqb-false}
 use lib.ListN.{length, length-map}
-use Rattle.rules.specs.Bound.{PlannedRow, planned}
+use Rattle.rules.specs.Bound.{PlannedRow}
 use Rattle.rules.specs.Calls.{AllShort, Call, Short, Ticked, acceptances, after, after_offer, after_tick, answered, done_flag, last_release, no_tick, offer_call, replies, soft_flag, step, tick_call, called_tick, ticked, ticks, took}
 use Rattle.rules.specs.File.{Reading, read, read_as, scan, unread}
 use Rattle.rules.specs.Offer.{Offered, accepted, no_offer, offer}

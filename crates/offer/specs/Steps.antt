@@ -1,5 +1,5 @@
 -- What the functions of the offer compute, on the state in memory. Assumes nothing.
-use Rattle.std.specs.Prelude.{ℕ, ◌+◌, ◌-◌, ◌*◌, ◌%◌, ◌^◌, min, Bool, cond, set, ◌==◌, nat_le, nat_lt, slice_set}
+use Rattle.std.specs.Prelude.{ℕ, ◌+◌, ◌-◌, ◌*◌, ◌%◌, ◌^◌, min, Bool, cond, ◌==◌, nat_le, nat_lt, slice_set}
 use Rattle.rules.specs.Lists.{sum}
 use Rattle.rules.specs.Tick.{bit}
 use Rattle.state.specs.Meaning.{age_at, entry, wrapped}

@@ -13,7 +13,6 @@ use Rattle.rules.proofs.Demand.{demand, entire, most_closed}
 use Rattle.rules.proofs.Facts.{AllRuns, Good, closed_not_open}
 use Rattle.rules.proofs.Hard.{AllSafe, FromBounds, no_one}
 use Rattle.rules.proofs.Plans.{OnPlan, on_plan, rows_in}
-use Rattle.rules.proofs.Queue.{rest}
 use Rattle.rules.proofs.Tick.{Inv}
 
 fresh_good : (p : PlannedRow) → RowOk p.row → p.row.C ≤ p.R → p.R ≤ deadline p.row → Good (fresh_slot p)

@@ -15,7 +15,7 @@ use Rattle.rules.specs.Tables.{RowOk}
 use Rattle.rules.specs.Station.{Firm, Last, OnFresh, Slot, Station, fresh_station, rows_of}
 use Rattle.rules.specs.Tick.{last_at, last_to}
 use Rattle.rules.specs.Calls.{AllShort, Call, Short, after, step}
-use Rattle.rules.specs.Image.{firm_ok, is_image, last_ok, narrow, promotable}
+use Rattle.rules.specs.Image.{firm_ok, is_image, last_ok, promotable}
 use Rattle.rules.proofs.Bools.{and_iff}
 use Rattle.rules.proofs.Facts.{AllRuns, FirmsOk, Good, Live, Paid, TicketsTo}
 use Rattle.rules.proofs.Faults.{is_none_iff, table_fault_iff}

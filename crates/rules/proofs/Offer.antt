@@ -10,7 +10,6 @@ use lib.ListN.{length}
 use native.Mathlib.Omega.{arith}
 use Rattle.rules.specs.Lists.{All}
 use Rattle.rules.specs.Refusals.{B_zero, d_under_b, queue_full, room_short}
-use Rattle.rules.specs.Bound.{plan}
 use Rattle.rules.specs.Station.{Firm, Station}
 use Rattle.rules.specs.Tick.{last_to}
 use Rattle.rules.specs.Offer.{accept, claims, fits, new_firm, no_offer, offer, queued, unrun}

@@ -5,7 +5,7 @@ use Rattle.std.proofs.Math.Option.{none, some}
 use Rattle.rules.specs.Lists.{any, first_of}
 use Rattle.rules.specs.File.{margin_bytes, row_bytes}
 use Rattle.rules.specs.Station.{Job, Last, Station, closed, firm_of, fresh_slot, fresh_station, nobody, opened, row_at, with_job}
-use Rattle.rules.specs.Tick.{done, hard, hard_job, idle, lower, nothing, run, soft, spent, upper}
+use Rattle.rules.specs.Tick.{done, hard, hard_job, idle, lower, nothing, soft, spent, upper}
 use Rattle.rules.specs.Calls.{after, offer_call, tick_call}
 use Rattle.rules.specs.Figures.{AllHold, Asked, Figures, Found, R_and_U, at_clock2, block_of, call_on, event_of, file_of, output_of, passes, ran, refuses, row, shows, station_a, table_a, ticket, values, with_margin}
 

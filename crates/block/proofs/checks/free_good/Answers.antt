@@ -1,5 +1,5 @@
 -- `checks::free_good` meets its contract: what is together so far are the bytes passed. Assumes nothing.
-use Rattle.std.proofs.Common.{◌≡◌, ◌+◌, ◌-◌, sym, refl, arith, rules}
+use Rattle.std.proofs.Common.{◌≡◌, ◌+◌, sym, refl, arith, rules}
 use Rattle.state.specs.Meaning.{entry}
 use Rattle.block.specs.Places.{reserved_at, reserved_bytes}
 use Rattle.block.specs.Tests.{free_good}

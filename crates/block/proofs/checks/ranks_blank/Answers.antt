@@ -1,5 +1,5 @@
 -- `checks::ranks_blank` meets its contract: what is together so far are the bytes past the rows. Assumes nothing.
-use Rattle.std.proofs.Common.{◌≡◌, ◌-◌, sym, arith, rules, le-ltb, lt-ltb}
+use Rattle.std.proofs.Common.{◌≡◌, sym, arith, rules, le-ltb, lt-ltb}
 use Rattle.block.specs.Tests.{past_fault, ranks_blank}
 use Rattle.block.proofs.Ors.{faultless, or_next}
 use Rattle.block.proofs.checks.ranks_blank.Goals as goal

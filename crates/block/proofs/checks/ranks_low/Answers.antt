@@ -1,5 +1,5 @@
 -- `checks::ranks_low` meets its contract: what is together so far are the ranks passed. Assumes nothing.
-use Rattle.std.proofs.Common.{◌≡◌, ◌+◌, ◌-◌, sym, refl, arith, rules}
+use Rattle.std.proofs.Common.{◌≡◌, ◌+◌, sym, refl, arith, rules}
 use Rattle.state.specs.Meaning.{entry}
 use Rattle.block.specs.Places.{rank_at}
 use Rattle.block.specs.Tests.{ranks_low}

@@ -1,5 +1,5 @@
 -- `checks::ranks_once` meets its contract: the set so far has the ranks passed. Assumes nothing.
-use Rattle.std.proofs.Common.{◌≡◌, ◌-◌, sym, ◌∙◌, arith, rules}
+use Rattle.std.proofs.Common.{◌≡◌, sym, ◌∙◌, arith, rules}
 use Rattle.block.specs.Tests.{rank_bit, ranks_once}
 use Rattle.block.proofs.Ors.{or_next, or_start}
 use Rattle.block.proofs.checks.ranks_once.Goals as goal

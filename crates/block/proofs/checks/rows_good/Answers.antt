@@ -1,5 +1,5 @@
 -- `checks::rows_good` meets its contract: what is together so far are the faults passed. Assumes nothing.
-use Rattle.std.proofs.Common.{◌≡◌, ◌-◌, sym, arith, rules}
+use Rattle.std.proofs.Common.{◌≡◌, sym, arith, rules}
 use Rattle.block.specs.Tests.{hard_fault_at, rows_good}
 use Rattle.block.proofs.Ors.{or_next, or_start}
 use Rattle.block.proofs.checks.rows_good.Goals as goal

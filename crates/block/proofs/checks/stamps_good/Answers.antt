@@ -1,5 +1,5 @@
 -- `checks::stamps_good` meets its contract: what is together so far are the faults passed. Assumes nothing.
-use Rattle.std.proofs.Common.{◌≡◌, ◌-◌, sym, ◌∙◌, arith, rules}
+use Rattle.std.proofs.Common.{◌≡◌, sym, ◌∙◌, arith, rules}
 use Rattle.block.specs.Tests.{stamp_fault_at, stamps_good}
 use Rattle.block.proofs.Ors.{or_next, or_start}
 use Rattle.block.proofs.checks.stamps_good.Goals as goal

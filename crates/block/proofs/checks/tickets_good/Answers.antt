@@ -1,5 +1,5 @@
 -- `checks::tickets_good` meets its contract: the ticket that is due, and the faults passed, together. Assumes nothing.
-use Rattle.std.proofs.Common.{◌≡◌, ◌+◌, ◌-◌, ◌%◌, ◌^◌, cond, sym, ◌∙◌, arith, rules}
+use Rattle.std.proofs.Common.{◌≡◌, ◌+◌, ◌%◌, ◌^◌, cond, sym, ◌∙◌, arith, rules}
 use Rattle.rules.specs.Tick.{bit}
 use Rattle.block.specs.Tests.{ticket_fault_at, tickets_good}
 use Rattle.block.proofs.Ors.{or_next, or_start}

@@ -1,5 +1,5 @@
 -- `words::get32s` meets its contract: one number after another is read. Assumes nothing.
-use Rattle.std.proofs.Common.{◌+◌, ◌-◌, ◌*◌, length, sym, refl, arith, length-set, rules}
+use Rattle.std.proofs.Common.{◌+◌, ◌*◌, length, sym, refl, arith, length-set, rules}
 use Rattle.block.specs.Words.{le32}
 use Rattle.block.proofs.Arrays.{read_all, read_more, read_none}
 use Rattle.block.proofs.words.get32s.Goals as goal

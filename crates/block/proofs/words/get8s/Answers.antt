@@ -1,5 +1,5 @@
 -- `words::get8s` meets its contract: one number after another is read. Assumes nothing.
-use Rattle.std.proofs.Common.{◌+◌, ◌-◌, ◌*◌, length, sym, refl, ap, one-mul, arith, length-set, rules}
+use Rattle.std.proofs.Common.{◌+◌, ◌*◌, length, sym, refl, ap, one-mul, arith, length-set, rules}
 use Rattle.state.specs.Meaning.{entry}
 use Rattle.block.proofs.Arrays.{read_all, read_more, read_none}
 use Rattle.block.proofs.words.get8s.Goals as goal

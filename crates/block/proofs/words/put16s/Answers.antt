@@ -1,5 +1,5 @@
 -- `words::put16s` meets its contract: one number after another is put. Assumes nothing.
-use Rattle.std.proofs.Common.{◌+◌, ◌-◌, ◌*◌, ◌∙◌, arith, rules}
+use Rattle.std.proofs.Common.{◌+◌, ◌*◌, ◌∙◌, arith, rules}
 use Rattle.block.proofs.Arrays.{put_all, put_more, put_none}
 use Rattle.block.proofs.Forms.{form16}
 use Rattle.block.proofs.words.put16s.Goals as goal

@@ -1,5 +1,5 @@
 -- `words::put32s` meets its contract: one number after another is put. Assumes nothing.
-use Rattle.std.proofs.Common.{◌+◌, ◌-◌, ◌*◌, ◌∙◌, arith, rules}
+use Rattle.std.proofs.Common.{◌+◌, ◌*◌, ◌∙◌, arith, rules}
 use Rattle.block.proofs.Arrays.{put_all, put_more, put_none}
 use Rattle.block.proofs.Forms.{form32}
 use Rattle.block.proofs.words.put32s.Goals as goal

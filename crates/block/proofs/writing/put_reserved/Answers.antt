@@ -1,5 +1,5 @@
 -- `writing::put_reserved` meets its contract: one byte after another is 0. Assumes nothing.
-use Rattle.std.proofs.Common.{◌≡◌, ℕ, ◌+◌, ◌-◌, [], ◌∷◌, replicate, sym, refl, ap, ◌∙◌, arith, length-set, rules}
+use Rattle.std.proofs.Common.{◌≡◌, ℕ, ◌+◌, [], ◌∷◌, replicate, sym, refl, ap, ◌∙◌, arith, length-set, rules}
 use lib.ListN.{length-replicate}
 use lib.Seq.{sets}
 use Rattle.wire.proofs.Stores.{stored_then}

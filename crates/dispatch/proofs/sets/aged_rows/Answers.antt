@@ -1,5 +1,5 @@
 -- `dispatch::sets::aged_rows` meets its contract. The loop has looked at the first i rows. Assumes nothing.
-use Rattle.std.proofs.Common.{◌≡◌, ◌-◌, ◌^◌, cond, refl, ◌∙◌, arith, rules}
+use Rattle.std.proofs.Common.{◌≡◌, ◌^◌, cond, refl, ◌∙◌, arith, rules}
 use Rattle.dispatch.specs.Loops.{aged_at, rows_that}
 use Rattle.dispatch.proofs.Loops.{that_lt, that_next}
 use Rattle.dispatch.proofs.sets.aged_rows.Goals as goal

@@ -1,5 +1,5 @@
 -- `dispatch::sets::lowest_rank` meets its contract. The loop goes from one row of the set to the next: what is left of the fold is from there on, with the best so far. Assumes nothing.
-use Rattle.std.proofs.Common.{◌-◌, sym, ◌∙◌, rules}
+use Rattle.std.proofs.Common.{sym, ◌∙◌, rules}
 use Rattle.dispatch.specs.Loops.{low_at, no_best}
 use Rattle.dispatch.proofs.Loops.{fold_done, least_set, low_first, low_next, next_set}
 use Rattle.dispatch.proofs.sets.lowest_rank.Goals as goal

@@ -1,5 +1,5 @@
 -- `dispatch::sets::stamped` meets its contract. The loop has changed the first i stamps. Assumes nothing.
-use Rattle.std.proofs.Common.{◌≡◌, ◌-◌, get_or, sym, ◌∙◌, arith, rules}
+use Rattle.std.proofs.Common.{◌≡◌, get_or, sym, ◌∙◌, arith, rules}
 use Rattle.dispatch.specs.Loops.{marked}
 use Rattle.dispatch.proofs.Loops.{upto_next, upto_none}
 use Rattle.dispatch.proofs.sets.stamped.Goals as goal

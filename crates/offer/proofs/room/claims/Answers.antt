@@ -1,5 +1,5 @@
 -- `offer::room::claims` meets its contract. The loop's invariant: what is added up is the sum of the rows passed, each at most row_most. Assumes nothing.
-use Rattle.std.proofs.Common.{◌≡◌, ◌-◌, min, ap, ◌∙◌, arith, rules}
+use Rattle.std.proofs.Common.{◌≡◌, min, ap, ◌∙◌, arith, rules}
 use Rattle.rules.specs.Lists.{sum}
 use Rattle.offer.specs.Steps.{claim_at, claims_of}
 use Rattle.offer.proofs.Bounds.{claim_le, fits_lt}

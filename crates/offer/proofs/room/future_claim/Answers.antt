@@ -1,5 +1,5 @@
 -- `offer::room::future_claim` meets its contract. The loop's invariant: at is where the k-th future job is promoted, and what is added up is the sum of those before it. Assumes nothing.
-use Rattle.std.proofs.Common.{◌≡◌, ◌-◌, sym, ap, ◌∙◌, arith, rules}
+use Rattle.std.proofs.Common.{◌≡◌, sym, ap, ◌∙◌, arith, rules}
 use Rattle.rules.specs.Lists.{sum}
 use Rattle.offer.specs.Steps.{future_at}
 use Rattle.offer.proofs.Bounds.{future_le, future_stops}

@@ -1,5 +1,5 @@
 -- `offer::room::unrun` meets its contract. The loop's invariant: what is added up is the sum of the firm jobs passed, each at most 65535. Assumes nothing.
-use Rattle.std.proofs.Common.{◌≡◌, ◌-◌, ap, ◌∙◌, arith, rules}
+use Rattle.std.proofs.Common.{◌≡◌, ap, ◌∙◌, arith, rules}
 use Rattle.rules.specs.Lists.{sum}
 use Rattle.state.specs.Meaning.{entry}
 use Rattle.offer.specs.Steps.{unrun_at, unrun_of}

@@ -1,5 +1,5 @@
 -- `table::bounds::bound_of_row` meets its contract. The invariant: the iteration has come to w after so many rounds, each of which added at least 1, and f(w) is not below w. The measure is how far w is from passing D. Assumes nothing.
-use Prim.Native.Nat.{◌+◌, ◌-◌}
+use Prim.Native.Nat.{◌+◌}
 use mathlib.Core.Path.{◌≡◌, sym, ap, ◌∙◌}
 use native.Mathlib.Nat.{add-le-add, le_refl}
 use native.Mathlib.Omega.{arith}

@@ -1,5 +1,5 @@
 -- `table::bounds::demand` meets its contract. The invariant: the sum is what the first j rows ask, at most 65535 * 65535 each. The measure is how many rows are left. Assumes nothing.
-use Prim.Native.Nat.{◌-◌, ◌*◌, ◌≤◌}
+use Prim.Native.Nat.{◌*◌, ◌≤◌}
 use mathlib.Core.Path.{◌≡◌, ap, ◌∙◌}
 use native.Mathlib.Omega.{arith}
 use Rattle.rules.specs.Bound.{ceil}

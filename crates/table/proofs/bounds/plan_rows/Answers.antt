@@ -1,5 +1,4 @@
 -- `table::bounds::plan_rows` meets its contract. The invariant: the first i rows are planned. The measure is how many rows are left. Assumes nothing.
-use Prim.Native.Nat.{◌-◌}
 use mathlib.Core.Path.{◌≡◌, sym, ◌∙◌}
 use native.Mathlib.Omega.{arith}
 use borrow.Author.Rules.{rules}
@@ -31,8 +30,7 @@ promotion_time-requires c = omega arith
 
 pub loop-i-preserved : goal.loop-i-preserved
 loop-i-preserved c =
-    let l = c.loop-i in
-    (
+    let l = c.loop-i in (
       omega arith,
       one_more_planned c.args.tb l.i l.r l.u l.rounds l.invariant.1 (omega arith) c.requires.0 (found (goal.at.loop-i-preserved c).In-Found) (omega arith) c.promotion_time.ensures,
     )

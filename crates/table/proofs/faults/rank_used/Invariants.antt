@@ -1,5 +1,5 @@
 -- `table::faults::rank_used` meets its contract. The invariant: what is left to look at are the rows above row j. The measure is j. Assumes nothing.
-use Prim.Native.Nat.{◌-◌, ◌≤◌}
+use Prim.Native.Nat.{◌≤◌}
 use mathlib.Core.Path.{◌≡◌}
 use Rattle.rules.specs.Rows.{used}
 use Rattle.table.specs.Memory.{above_of}

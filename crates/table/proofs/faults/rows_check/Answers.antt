@@ -1,5 +1,4 @@
 -- `table::faults::rows_check` meets its contract. The invariant: the checks of all rows come to those from row i on. The measure is how many rows are left. Assumes nothing.
-use Prim.Native.Nat.{◌-◌}
 use mathlib.Core.Path.{sym, ap, ◌∙◌}
 use native.Mathlib.Omega.{arith}
 use borrow.Author.Rules.{rules}

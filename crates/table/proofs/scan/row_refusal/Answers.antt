@@ -1,5 +1,5 @@
 -- `table::scan::row_refusal` meets its contract. The invariant: at is where the field at k starts. The measure is how many fields are left. Assumes nothing.
-use Prim.Native.Nat.{suc, ◌+◌, ◌-◌}
+use Prim.Native.Nat.{suc, ◌+◌}
 use mathlib.Core.Path.{◌≡◌, ap, ◌∙◌}
 use native.Mathlib.Omega.{arith}
 use Rattle.table.specs.Walk.{size_at, start_of}

@@ -1,5 +1,5 @@
 -- `table::scan::rows_at` meets its contract. The invariant: each column holds the first i rows, and at is where the field at i starts. The measure is how many rows are left. Assumes nothing.
-use Prim.Native.Nat.{ℕ, ◌-◌}
+use Prim.Native.Nat.{ℕ}
 use mathlib.Core.Path.{ap, ◌∙◌}
 use native.Mathlib.Omega.{arith}
 use lib.ListN.{drop}

@@ -1,5 +1,5 @@
 -- `table::writing::file_size` meets its contract. The invariant: the end field and the first i rows take so many bytes. The measure is how many rows are left. Assumes nothing.
-use Prim.Native.Nat.{ℕ, ◌+◌, ◌-◌}
+use Prim.Native.Nat.{ℕ, ◌+◌}
 use mathlib.Core.Path.{◌≡◌, sym, ap, ◌∙◌}
 use native.Mathlib.Omega.{arith}
 use lib.ListN.{length}

@@ -1,5 +1,5 @@
 -- `table::writing::put_rows` meets its contract. The invariant: the bytes of the first i rows are put, and at is behind them. The measure is how many rows are left. Assumes nothing.
-use Prim.Native.Nat.{ℕ, ◌+◌, ◌-◌}
+use Prim.Native.Nat.{ℕ, ◌+◌}
 use mathlib.Core.Path.{◌≡◌, ap, ◌∙◌}
 use native.Mathlib.Omega.{arith}
 use lib.ListN.{length}
