@@ -3,6 +3,4 @@ use Rattle.dispatch.proofs.NamedRows.{answer_below}
 use Rattle.run.proofs.tick.Goals as goal
 
 pub answered-requires : goal.answered-requires
-answered-requires g c =
-    let a = c.args in
-    answer_below a.rows a.state.now a.set a.done a.soft c.tick-ticked.ensures
+answered-requires g c = answer_below _ _ _ _ _ c.tick-ticked.ensures
