@@ -1,53 +1,72 @@
 // Reads a table from standard input and prints a line a row: the row, C, D, T, R, U and the rounds; or why it is refused.
 #![tactic(auto)]
 
-ghost use Rattle.std.specs.Prelude.{◌<◌, ◌≤◌};
+ghost use Rattle.std.specs.Prelude.{◌<◌, ◌≤◌, IfOk, length, take};
+ghost use Rattle.std.specs.Io.{ReadsAtMost};
+ghost use Rattle.std.specs.Io.KnownBytes.{Consumes, IsAtEnd};
 
+use std::io;
+use std::io::{Print, Read};
 use table::{FileRefusal, FileVerdict, Plan, Table};
 use wire::Place;
 
-fn main() {
+fn main(rt: HostRuntime) -> io::Result<()> {
     let mut buffer = [0u8; 257];
-    let n = io::read_full(0, &mut buffer);
+    let n = fill(&mut rt.stdin(), &mut buffer)?;
     if 256 < n {
-        too_long();
-        return;
+        return too_long(&rt);
     }
-    show(&buffer[..n]);
+    show(&rt, &buffer[..n])
 }
 
-fn too_long() {
-    io::write_all(1, b"too long\n");
+// How many bytes are put at the front of the buffer: reads go on until the input ends or the buffer is full.
+fn fill<R: Read>(reader: &mut R, buffer: &mut [u8]) -> io::Result<usize>
+    ensures bound { ReadsAtMost result buffer.new }
+    ensures bytes { IfOk result (λ n. Consumes (R.remaining reader.old) (R.remaining reader.new) (take n buffer.new)) }
+    ensures end { IfOk result (λ n. n < length buffer.new → IsAtEnd (R.remaining reader.new)) }
+{
+    let mut n = 0;
+    while n < buffer.len() {
+        let more = reader.read(&mut buffer[n..])?;
+        if more == 0 {
+            return Ok(n);
+        }
+        n += more;
+    }
+    Ok(n)
 }
 
-fn show(s: &[u8]) {
+fn too_long(rt: &impl Print) -> io::Result<()> {
+    println!(rt; "too long")
+}
+
+fn show(rt: &impl Print, s: &[u8]) -> io::Result<()> {
     let answer = table::read_table(s);
     let verdict = answer.verdict;
     match verdict {
         FileVerdict::Accepted => {
             let rows = answer.table;
             let plan = answer.plan;
-            print_rows(rows, plan);
+            print_rows(rt, rows, plan)
         }
-        FileVerdict::Refused(refusal) => print_refusal(s, refusal),
+        FileVerdict::Refused(refusal) => print_refusal(rt, s, refusal),
     }
 }
 
-fn print_rows(rows: Table, plan: Plan)
+fn print_rows(rt: &impl Print, rows: Table, plan: Plan) -> io::Result<()>
     requires { rows.n ≤ 16 }
 {
-    let mut i: usize = 0;
-    while i < rows.n {
-        print_number(row_number(i));
-        print_next(rows.c[i]);
-        print_next(rows.d[i]);
-        print_next(rows.t[i]);
-        print_next(plan.r[i]);
-        print_next(plan.u[i]);
-        print_next(plan.rounds[i]);
-        print_line();
-        i += 1;
+    for i in 0..rows.n {
+        print_number(rt, row_number(i))?;
+        print_next(rt, rows.c[i])?;
+        print_next(rt, rows.d[i])?;
+        print_next(rt, rows.t[i])?;
+        print_next(rt, plan.r[i])?;
+        print_next(rt, plan.u[i])?;
+        print_next(rt, plan.rounds[i])?;
+        print_line(rt)?;
     }
+    Ok(())
 }
 
 // Rows are counted from 1.
@@ -57,49 +76,48 @@ fn row_number(i: usize) -> u64
     i as u64 + 1
 }
 
-fn print_refusal(s: &[u8], refusal: FileRefusal) {
-    print_refused();
-    print_number(refusal.number as u64);
+fn print_refusal(rt: &impl Print, s: &[u8], refusal: FileRefusal) -> io::Result<()> {
+    print_refused(rt)?;
+    print_number(rt, refusal.number as u64)?;
     let place = Place::Table {
         from: refusal.from,
         size: refusal.size,
     };
-    print_bytes(wire::shown(s, s, place));
-    print_line();
+    print_bytes(rt, wire::shown(s, s, place))?;
+    print_line(rt)
 }
 
-fn print_bytes(s: &[u8]) {
-    let mut i: usize = 0;
-    while i < s.len() {
-        print_byte(s[i]);
-        i += 1;
+fn print_bytes(rt: &impl Print, s: &[u8]) -> io::Result<()> {
+    for b in s {
+        print_byte(rt, *b)?;
     }
+    Ok(())
 }
 
 // Two digits of hex, after a space.
-fn print_byte(b: u8) {
-    print_space();
-    io::print_hex(1, b as u64, 2);
+fn print_byte(rt: &impl Print, b: u8) -> io::Result<()> {
+    print_space(rt)?;
+    print!(rt; "{b:02x}")
 }
 
 // A number after a space.
-fn print_next(x: u16) {
-    print_space();
-    print_number(x as u64);
+fn print_next(rt: &impl Print, x: u16) -> io::Result<()> {
+    print_space(rt)?;
+    print_number(rt, x as u64)
 }
 
-fn print_number(x: u64) {
-    io::print_decimal(1, x);
+fn print_number(rt: &impl Print, x: u64) -> io::Result<()> {
+    print!(rt; "{x}")
 }
 
-fn print_refused() {
-    io::write_all(1, b"refused ");
+fn print_refused(rt: &impl Print) -> io::Result<()> {
+    print!(rt; "refused ")
 }
 
-fn print_space() {
-    io::write_all(1, b" ");
+fn print_space(rt: &impl Print) -> io::Result<()> {
+    print!(rt; " ")
 }
 
-fn print_line() {
-    io::write_all(1, b"\n");
+fn print_line(rt: &impl Print) -> io::Result<()> {
+    println!(rt)
 }

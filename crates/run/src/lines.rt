@@ -3,166 +3,174 @@ ghost use Rattle.std.specs.Prelude.{◌<◌};
 ghost use Rattle.answer.specs.Below.{AnswerBelow, ClosingBelow, RunnerBelow};
 
 use answer::{Answer, Band, Closing, Notes, Runner};
+use std::io;
+use std::io::Print;
 use wire::Place;
 
-pub fn too_long() {
-    print(b"too long\n");
+pub fn too_long(rt: &impl Print) -> io::Result<()> {
+    println!(rt; "too long")
 }
 
 // A refusal: its number, and the part of one of the two files that it shows.
-pub fn refused<'a>(table: &'a [u8], events: &'a [u8], number: u8, place: Place) {
-    print(b"refused ");
-    print_number(number as u64);
-    print_bytes(wire::shown(table, events, place));
-    print_line();
+pub fn refused<'a>(
+    rt: &impl Print,
+    table: &'a [u8],
+    events: &'a [u8],
+    number: u8,
+    place: Place,
+) -> io::Result<()> {
+    print(rt, "refused ")?;
+    print_number(rt, number as u64)?;
+    print_bytes(rt, wire::shown(table, events, place))?;
+    print_line(rt)
 }
 
-fn print_bytes(s: &[u8]) {
-    let mut i: usize = 0;
-    while i < s.len() {
-        print_byte(s[i]);
-        i += 1;
+fn print_bytes(rt: &impl Print, s: &[u8]) -> io::Result<()> {
+    for b in s {
+        print_byte(rt, *b)?;
     }
+    Ok(())
 }
 
 // Two digits of hex, after a space.
-fn print_byte(b: u8) {
-    print_space();
-    io::print_hex(1, b as u64, 2);
+fn print_byte(rt: &impl Print, b: u8) -> io::Result<()> {
+    print_space(rt)?;
+    print!(rt; "{b:02x}")
 }
 
 // An offer that was accepted.
-pub fn accepted(ticket: u32) {
-    print(b"offer ");
-    print_firm(ticket);
-    print_line();
+pub fn accepted(rt: &impl Print, ticket: u32) -> io::Result<()> {
+    print(rt, "offer ")?;
+    print_firm(rt, ticket)?;
+    print_line(rt)
 }
 
 // A tick: the clock, the runner and the closing; then its notes.
-pub fn answered(answer: Answer)
+pub fn answered(rt: &impl Print, answer: Answer) -> io::Result<()>
     requires { AnswerBelow answer }
 {
-    print_number(answer.clock as u64);
-    print_space();
+    print_number(rt, answer.clock as u64)?;
+    print_space(rt)?;
     let runner = answer.runner;
-    print_runner(runner);
-    print_space();
+    print_runner(rt, runner)?;
+    print_space(rt)?;
     let closing = answer.closing;
-    print_closing(closing);
-    print_line();
+    print_closing(rt, closing)?;
+    print_line(rt)?;
     let notes = answer.notes;
-    print_notes(notes);
+    print_notes(rt, notes)
 }
 
-fn print_runner(runner: Runner)
+fn print_runner(rt: &impl Print, runner: Runner) -> io::Result<()>
     requires { RunnerBelow runner }
 {
     match runner {
-        Runner::Hard(row, band) => print_hard(row, band),
-        Runner::Firm(ticket) => print_firm(ticket),
-        Runner::Soft => print(b"S"),
-        Runner::Idle => print(b"I"),
+        Runner::Hard(row, band) => print_hard(rt, row, band),
+        Runner::Firm(ticket) => print_firm(rt, ticket),
+        Runner::Soft => print(rt, "S"),
+        Runner::Idle => print(rt, "I"),
     }
 }
 
-fn print_hard(row: usize, band: Band)
+fn print_hard(rt: &impl Print, row: usize, band: Band) -> io::Result<()>
     requires { row < 16 }
 {
     match band {
-        Band::Upper => print(b"U"),
-        Band::Lower => print(b"L"),
+        Band::Upper => print(rt, "U")?,
+        Band::Lower => print(rt, "L")?,
     }
-    print_row(row);
+    print_row(rt, row)
 }
 
-fn print_closing(closing: Closing)
+fn print_closing(rt: &impl Print, closing: Closing) -> io::Result<()>
     requires { ClosingBelow closing }
 {
     match closing {
-        Closing::Nothing => print(b"-"),
+        Closing::Nothing => print(rt, "-"),
         Closing::HardDone(row) => {
-            print_job(row);
-            print_done();
+            print_job(rt, row)?;
+            print_done(rt)
         }
         Closing::HardSpent(row) => {
-            print_job(row);
-            print_spent();
+            print_job(rt, row)?;
+            print_spent(rt)
         }
         Closing::FirmDone(ticket) => {
-            print_firm(ticket);
-            print_done();
+            print_firm(rt, ticket)?;
+            print_done(rt)
         }
         Closing::FirmSpent(ticket) => {
-            print_firm(ticket);
-            print_spent();
+            print_firm(rt, ticket)?;
+            print_spent(rt)
         }
     }
 }
 
 // A line for each note, in the order of their numbers.
-fn print_notes(notes: Notes) {
-    print_bits(12, notes.unknown);
+fn print_notes(rt: &impl Print, notes: Notes) -> io::Result<()> {
+    print_bits(rt, 12, notes.unknown)?;
     if notes.none_ran {
-        print_note(13);
-        print_line();
+        print_note(rt, 13)?;
+        print_line(rt)?;
     }
-    print_bits(14, notes.not_ready);
+    print_bits(rt, 14, notes.not_ready)
 }
 
 // A note about release bits, where there are any: four digits of hex.
-fn print_bits(number: u64, bits: u16) {
-    if bits != 0 {
-        print_note(number);
-        print_space();
-        io::print_hex(1, bits as u64, 4);
-        print_line();
+fn print_bits(rt: &impl Print, number: u64, bits: u16) -> io::Result<()> {
+    if bits == 0 {
+        return Ok(());
     }
+    print_note(rt, number)?;
+    print_space(rt)?;
+    print!(rt; "{bits:04x}")?;
+    print_line(rt)
 }
 
-fn print_note(number: u64) {
-    print(b"note ");
-    print_number(number);
+fn print_note(rt: &impl Print, number: u64) -> io::Result<()> {
+    print(rt, "note ")?;
+    print_number(rt, number)
 }
 
-fn print_job(row: usize)
+fn print_job(rt: &impl Print, row: usize) -> io::Result<()>
     requires { row < 16 }
 {
-    print(b"H");
-    print_row(row);
+    print(rt, "H")?;
+    print_row(rt, row)
 }
 
-fn print_firm(ticket: u32) {
-    print(b"F");
-    print_number(ticket as u64);
+fn print_firm(rt: &impl Print, ticket: u32) -> io::Result<()> {
+    print(rt, "F")?;
+    print_number(rt, ticket as u64)
 }
 
 // Rows are counted from 1.
-fn print_row(row: usize)
+fn print_row(rt: &impl Print, row: usize) -> io::Result<()>
     requires { row < 16 }
 {
-    print_number(row as u64 + 1);
+    print_number(rt, row as u64 + 1)
 }
 
-fn print_done() {
-    print(b" done");
+fn print_done(rt: &impl Print) -> io::Result<()> {
+    print(rt, " done")
 }
 
-fn print_spent() {
-    print(b" spent");
+fn print_spent(rt: &impl Print) -> io::Result<()> {
+    print(rt, " spent")
 }
 
-fn print_number(x: u64) {
-    io::print_decimal(1, x);
+fn print_number(rt: &impl Print, x: u64) -> io::Result<()> {
+    print!(rt; "{x}")
 }
 
-fn print_space() {
-    print(b" ");
+fn print_space(rt: &impl Print) -> io::Result<()> {
+    print(rt, " ")
 }
 
-fn print_line() {
-    print(b"\n");
+fn print_line(rt: &impl Print) -> io::Result<()> {
+    println!(rt)
 }
 
-fn print(text: &[u8]) {
-    io::write_all(1, text);
+fn print(rt: &impl Print, text: &str) -> io::Result<()> {
+    rt.print(text)
 }

@@ -3,66 +3,88 @@
 
 mod lines;
 
-ghost use Rattle.std.specs.Prelude.{◌≡◌};
-ghost use Rattle.io.specs.Counts.{IsPrefixLen};
+ghost use Rattle.std.specs.Prelude.{◌≡◌, ◌<◌, IfOk, length, take};
+ghost use Rattle.std.specs.Io.{ReadsAtMost};
+ghost use Rattle.std.specs.Io.KnownBytes.{Consumes, IsAtEnd};
 ghost use Rattle.dispatch.specs.Steps.{tick_in};
 ghost use Rattle.offer.specs.Steps.{offer_made};
 
 use event::EventRead;
 use offer::Offered;
 use state::{Rows, State};
+use std::fs::File;
+use std::io;
+use std::io::{Print, Read};
+use std::rt::Files;
 use wire::Place;
 
-fn main() {
+fn main(rt: HostRuntime) -> io::Result<()> {
     let mut table = [0u8; 257];
     let mut events = [0u8; 60001];
-    let n = load(b"table.bin", &mut table);
+    let n = load(&rt, "table.bin", &mut table)?;
     if 256 < n {
-        lines::too_long();
-        return;
+        return lines::too_long(&rt);
     }
-    let m = load(b"events.bin", &mut events);
+    let m = load(&rt, "events.bin", &mut events)?;
     if 60000 < m {
-        lines::too_long();
-        return;
+        return lines::too_long(&rt);
     }
-    run_files(&table[..n], &events[..m]);
+    run_files(&rt, &table[..n], &events[..m])
 }
 
 // How many bytes of a file are put at the front of the buffer, as far as it goes.
-fn load(path: &[u8], buffer: &mut [u8]) -> usize
-    ensures { IsPrefixLen result buffer.new }
+fn load<R: Files>(rt: &R, path: &str, buffer: &mut [u8]) -> io::Result<usize>
+    ensures { ReadsAtMost result buffer.new }
 {
-    let file = os::open_read(path);
-    if file < 0 {
-        return 0;
+    match File::open(rt, path) {
+        Ok(mut file) => fill(&mut file, buffer),
+        Err(_) => Ok(0),
     }
-    let n = io::read_full(file, buffer);
-    libc::close(file);
-    n
 }
 
-fn run_files<'a>(table: &'a [u8], events: &'a [u8]) {
+// How many bytes are put at the front of the buffer: reads go on until the input ends or the buffer is full.
+fn fill<R: Read>(reader: &mut R, buffer: &mut [u8]) -> io::Result<usize>
+    ensures bound { ReadsAtMost result buffer.new }
+    ensures bytes { IfOk result (λ n. Consumes (R.remaining reader.old) (R.remaining reader.new) (take n buffer.new)) }
+    ensures end { IfOk result (λ n. n < length buffer.new → IsAtEnd (R.remaining reader.new)) }
+{
+    let mut n = 0;
+    while n < buffer.len() {
+        let more = reader.read(&mut buffer[n..])?;
+        if more == 0 {
+            return Ok(n);
+        }
+        n += more;
+    }
+    Ok(n)
+}
+
+fn run_files<'a>(rt: &impl Print, table: &'a [u8], events: &'a [u8]) -> io::Result<()> {
     let answer = table::read_table(table);
     let verdict = answer.verdict;
     match verdict {
         table::FileVerdict::Accepted => {
             let rows = answer.table;
             let plan = answer.plan;
-            run_events(table, events, state::planned_rows(rows, plan));
+            run_events(rt, table, events, state::planned_rows(rows, plan))
         }
         table::FileVerdict::Refused(refusal) => {
             let place = Place::Table {
                 from: refusal.from,
                 size: refusal.size,
             };
-            lines::refused(table, events, refusal.number, place);
+            lines::refused(rt, table, events, refusal.number, place)
         }
     }
 }
 
 // The events in order, from the fresh state: to their end, or to the first that is no event.
-fn run_events<'a>(table: &'a [u8], events: &'a [u8], rows: Rows) {
+fn run_events<'a>(
+    rt: &impl Print,
+    table: &'a [u8],
+    events: &'a [u8],
+    rows: Rows,
+) -> io::Result<()> {
     let mut state = state::fresh_state(rows.table.n);
     let mut at: usize = 0;
     loop {
@@ -73,7 +95,7 @@ fn run_events<'a>(table: &'a [u8], events: &'a [u8], rows: Rows) {
                 soft,
                 next,
             } => {
-                state = tick(rows, state, set, done, soft);
+                tick(rt, rows, &mut state, set, done, soft)?;
                 at = next;
             }
             EventRead::Offer {
@@ -85,48 +107,53 @@ fn run_events<'a>(table: &'a [u8], events: &'a [u8], rows: Rows) {
                     from: at,
                     size: next - at,
                 };
-                state = offer(table, events, field, rows, state, budget, deadline);
+                offer(rt, table, events, field, rows, &mut state, budget, deadline)?;
                 at = next;
             }
             EventRead::End => {
-                return;
+                return Ok(());
             }
             EventRead::Refused { number, from, size } => {
-                lines::refused(table, events, number, Place::Events { from, size });
-                return;
+                return lines::refused(rt, table, events, number, Place::Events { from, size });
             }
         }
     }
 }
 
-// A tick; the state after it.
-fn tick(rows: Rows, state: State, set: u16, done: bool, soft: bool) -> State
-    ensures { result ≡ (tick_in rows state set done soft).state }
+// A tick; the state after it, also where a line can't be printed.
+fn tick(
+    rt: &impl Print,
+    rows: Rows,
+    state: &mut State,
+    set: u16,
+    done: bool,
+    soft: bool,
+) -> io::Result<()>
+    ensures { state.new ≡ (tick_in rows state.old set done soft).state }
 {
-    let ticked = dispatch::tick(rows, state, set, done, soft);
-    let answer = ticked.answer;
-    lines::answered(answer);
-    ticked.state
+    let ticked = dispatch::tick(rows, *state, set, done, soft);
+    *state = ticked.state;
+    lines::answered(rt, ticked.answer)
 }
 
-// An offer, whose field is shown where it is refused; the state after it.
+// An offer, whose field is shown where it is refused; the state after it, also where its line can't be printed.
 fn offer<'a>(
+    rt: &impl Print,
     table: &'a [u8],
     events: &'a [u8],
     field: Place,
     rows: Rows,
-    state: State,
+    state: &mut State,
     budget: u16,
     deadline: u16,
-) -> State
-    ensures { result ≡ (offer_made rows state budget deadline).state }
+) -> io::Result<()>
+    ensures { state.new ≡ (offer_made rows state.old budget deadline).state }
 {
-    let made = offer::offer(rows, state, budget, deadline);
+    let made = offer::offer(rows, *state, budget, deadline);
+    *state = made.state;
     let offered = made.offered;
     let Offered::Ticket(ticket) = offered else {
-        lines::refused(table, events, offer::offer_number(offered), field);
-        return made.state;
+        return lines::refused(rt, table, events, offer::offer_number(offered), field);
     };
-    lines::accepted(ticket);
-    made.state
+    lines::accepted(rt, ticket)
 }

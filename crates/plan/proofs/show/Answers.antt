@@ -3,5 +3,5 @@ use Rattle.table.proofs.Files.{read_few}
 use Rattle.plan.proofs.show.Goals as goal
 
 pub print_rows-requires : goal.print_rows-requires
-print_rows-requires c =
+print_rows-requires g c =
     rw c.read_table-answer.ensures (read_few c.args.s.now)
