@@ -1,9 +1,10 @@
-// Reads table.bin and events.bin, each empty where it can't be opened, and prints a line an event: the dispatcher's answer, or why it is refused; after a tick's line one for each note.
+// Reads table.bin and events.bin, each empty where it can't be opened or read, and prints a line an event: the dispatcher's answer, or why it is refused; after a tick's line one for each note.
 #![tactic(auto)]
 
 mod lines;
 
 ghost use Rattle.std.specs.Prelude.{◌≡◌, ◌<◌, IfOk, length, take};
+ghost use Rattle.std.specs.Counts.{IsPrefixLen};
 ghost use Rattle.std.specs.Io.{ReadsAtMost};
 ghost use Rattle.std.specs.Io.KnownBytes.{Consumes, IsAtEnd};
 ghost use Rattle.dispatch.specs.Steps.{tick_in};
@@ -21,25 +22,25 @@ use wire::Place;
 fn main(rt: HostRuntime) -> io::Result<()> {
     let mut table = [0u8; 257];
     let mut events = [0u8; 60001];
-    let n = load(&rt, "table.bin", &mut table)?;
+    let n = load(&rt, "table.bin", &mut table);
     if 256 < n {
         return lines::too_long(&rt);
     }
-    let m = load(&rt, "events.bin", &mut events)?;
+    let m = load(&rt, "events.bin", &mut events);
     if 60000 < m {
         return lines::too_long(&rt);
     }
     run_files(&rt, &table[..n], &events[..m])
 }
 
-// How many bytes of a file are put at the front of the buffer, as far as it goes.
-fn load<R: Files>(rt: &R, path: &str, buffer: &mut [u8]) -> io::Result<usize>
-    ensures { ReadsAtMost result buffer.new }
+// How many bytes of a file are put at the front of the buffer, as far as it goes; none where it can't be opened or read.
+fn load<R: Files>(rt: &R, path: &str, buffer: &mut [u8]) -> usize
+    ensures { IsPrefixLen result buffer.new }
 {
-    match File::open(rt, path) {
-        Ok(mut file) => fill(&mut file, buffer),
-        Err(_) => Ok(0),
-    }
+    let Ok(mut file) = File::open(rt, path) else {
+        return 0;
+    };
+    fill(&mut file, buffer).unwrap_or(0)
 }
 
 // How many bytes are put at the front of the buffer: reads go on until the input ends or the buffer is full.
