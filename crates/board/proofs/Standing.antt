@@ -133,18 +133,18 @@ module _ (rows : Rows) (s : State) (I : Imaged rows s) where
 pub step_stands : (b : List ℕ) (st : Station) (c : Call) → Short c → StandsFor b st → (reply_on b c ≡ some (step st c).reply) × StandsFor (block_on b c) (step st c).station
 step_stands b st c h H = rw (← H.block_is, ← H.station_is) (call_stands H.rows H.state H.imaged c h)
 
-pub replies_stands : (cs : List Call) (b : List ℕ) (st : Station) → AllShort cs → StandsFor b st → block_replies b cs ≡ replies st cs
-replies_stands [] b st h H = refl
-replies_stands (c ∷ cs) b st (h, hs) H =
-    let (r, H') = step_stands b st c h H in
-    ap₂ with_reply r (replies_stands cs (block_on b c) (step st c).station hs H')
+pub replies_stands : (cs : List Call) (b : List ℕ) (station : Station) → AllShort cs → StandsFor b station → block_replies b cs ≡ replies station cs
+replies_stands [] b station h H = refl
+replies_stands (c ∷ cs) b station (h, hs) H =
+    let (r, H') = step_stands b station c h H in
+    ap₂ with_reply r (replies_stands cs (block_on b c) (step station c).station hs H')
 
-pub after_stands : (cs : List Call) (b : List ℕ) (st : Station) → AllShort cs → StandsFor b st → StandsFor (block_after b cs) (after st cs)
-after_stands [] b st h H = H
-after_stands (c ∷ cs) b st (h, hs) H = after_stands cs (block_on b c) (step st c).station hs (step_stands b st c h H).1
+pub after_stands : (cs : List Call) (b : List ℕ) (station : Station) → AllShort cs → StandsFor b station → StandsFor (block_after b cs) (after station cs)
+after_stands [] b station h H = H
+after_stands (c ∷ cs) b station (h, hs) H = after_stands cs (block_on b c) (step station c).station hs (step_stands b station c h H).1
 
 -- any bytes that decode accepts hold a station of document 01's conditions
-pub accepted_stands : (b : List ℕ) → Bytes b → (decoded_of b).ok ≡ true → (st : Station) × (is_image st ≡ true) × StandsFor b st
+pub accepted_stands : (b : List ℕ) → Bytes b → (decoded_of b).ok ≡ true → (station : Station) × (is_image station ≡ true) × StandsFor b station
 accepted_stands b bytes ok =
     let x = decoded_of b in
     let decoded : x ≡ decoded_as x.rows x.state = λ i. record { ok = ok i; rows = x.rows; state = x.state } in
