@@ -15,7 +15,7 @@ public_functions() {
     for module in lib $(sed -nE 's/^pub mod ([a-z0-9_]+);.*/\1/p' "$1/src/lib.rt"); do
         sed -nE "s/^ *pub (extern \"C\" )?fn ([a-z0-9_]+).*/$module \2/p" "$1/src/$module.rt"
     done
-    sed -nE 's/^pub use ([a-z0-9_]+)::\{?([^;}]*)\}?;.*/\1 \2/p' "$1/src/lib.rt" | while read -r module names; do
+    tr '\n' ' ' < "$1/src/lib.rt" | { grep -oE 'pub use [a-z0-9_]+::[^;]*;' || true; } | sed -E 's/^pub use ([a-z0-9_]+)::\{?([^;}]*)\}?;/\1 \2/' | while read -r module names; do
         tr -d ' ' <<< "$names" | tr ',' '\n' | sed -nE "s/^([a-z].*)/$module \1/p"
     done
 }

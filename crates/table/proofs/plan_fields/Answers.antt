@@ -1,5 +1,4 @@
 -- `table::plan_fields` meets its contract: what the checks of rows say, then the plan. Assumes nothing.
--- the checks, of as many rows as there are fields
 use mathlib.Core.List.{[]}
 use mathlib.Core.Path.{◌≡◌, sym, ap, ◌∙◌}
 use Prim.Native.Nat.{ℕ}
@@ -14,6 +13,8 @@ use Rattle.table.proofs.Files.{rows_fields}
 use Rattle.table.proofs.Verdicts.{fault_passed, plan_passed, plan_failed}
 use Rattle.table.proofs.plan_fields.Goals as goal
 use Rattle.table.proofs.plan_fields.Goals.{After-rows_check}
+
+-- the checks, of as many rows as there are fields
 
 checked : (c : After-rows_check) → let fs = fields_of c.args.rows in c.rows_check.result ≡ checked_of (fields_fault (length fs) [] 0 fs)
 checked c =

@@ -1,5 +1,4 @@
 -- `table::read_rows` meets its contract: what is read by the verdict of planning. Assumes nothing.
--- the fields of the file
 use Prim.Native.Nat.{ℕ}
 use mathlib.Core.List.{List}
 use mathlib.Core.Path.{◌≡◌, refl, sym, ap, ◌∙◌}
@@ -18,6 +17,8 @@ use Rattle.table.proofs.Files.{file_fields}
 use Rattle.table.proofs.Verdicts.{failed_row, failed_read, passed_read}
 use Rattle.table.proofs.read_rows.Goals as goal
 use Rattle.table.proofs.read_rows.Goals.{After-plan_fields-planning}
+
+-- how many fields there are, and what planning makes of them
 
 count : (s : List ℕ) (n : ℕ) → length (fields_in s n) ≡ n
 count s n = length_indexed (λ i. field_of (drop (start_of s i) s)) 0 n

@@ -1,5 +1,4 @@
 -- `table::read_table` meets its contract: a broken file, or the rows of a whole one. Assumes nothing.
--- the file that was scanned whole
 use Prim.Native.Nat.{◌≤◌}
 use mathlib.Core.Path.{◌≡◌, sym, ap, ◌∙◌}
 use Rattle.rules.specs.File.{whole, Scan, scan, read_scan, read}
@@ -8,6 +7,8 @@ use Rattle.table.specs.Answers.{file_read, reading_of, scan_row}
 use Rattle.table.proofs.Files.{scan_whole, scan_broken}
 use Rattle.table.proofs.read_table.Goals as goal
 use Rattle.table.proofs.read_table.Goals.{In-Whole}
+
+-- the file that was scanned whole
 
 file : (c : In-Whole) → let s = c.args.s.now in (c.in-Whole.n ≤ 16) × RowFields s c.in-Whole.n × (scan 16 0 s ≡ whole (fields_in s c.in-Whole.n))
 file c = scan_whole _ _ (sym c.scan_fields.ensures ∙ c.in-Whole.is)

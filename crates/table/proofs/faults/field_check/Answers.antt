@@ -1,5 +1,4 @@
 -- `table::faults::field_check` meets its contract: 6 to 9, then 21. Assumes nothing.
--- what 21 says of the row
 use mathlib.Core.Bool.{Bool, cond}
 use mathlib.Core.Option.{map, none, some}
 use mathlib.Core.Path.{◌≡◌, sym, ap, ◌∙◌}
@@ -13,12 +12,14 @@ use Rattle.table.proofs.Checks.{zero_asked, zero_not_asked}
 use Rattle.table.proofs.faults.field_check.Goals as goal
 use Rattle.table.proofs.faults.field_check.Goals.{In-Passed}
 
-abbrev zeroFound : In-Passed → Bool → Checked
-zeroFound c zero_margin_lem = checked_of (map (λ why. at_row why c.args.i) (cond zero_margin_lem (some M_zero) none))
+-- what 21 says of the row
+
+abbrev zero_found : In-Passed → Bool → Checked
+zero_found c is_zero = checked_of (map (λ why. at_row why c.args.i) (cond is_zero (some M_zero) none))
 
 -- 6 to 9 let it pass: 21 is asked
 
-asked : (c : In-Passed) → let a = c.args in field_checked a.rows a.i ≡ zeroFound c (zero_margin (field_at a.rows a.i))
+asked : (c : In-Passed) → let a = c.args in field_checked a.rows a.i ≡ zero_found c (zero_margin (field_at a.rows a.i))
 asked c =
     let rows = c.args.rows in
     let i = c.args.i in
@@ -35,7 +36,7 @@ returns-in-Failed c =
     (sym c.row_check.ensures ∙ c.in-Failed.is))
 
 pub returns-then-rows-i : goal.returns-then-rows-i
-returns-then-rows-i c = sym (asked (goal.at.returns-then-rows-i c).In-Passed ∙ ap (zeroFound (goal.at.returns-then-rows-i c).In-Passed) c.if-rows-i.true)
+returns-then-rows-i c = sym (asked (goal.at.returns-then-rows-i c).In-Passed ∙ ap (zero_found (goal.at.returns-then-rows-i c).In-Passed) c.if-rows-i.true)
 
 pub returns-else-rows-i : goal.returns-else-rows-i
-returns-else-rows-i c = sym (asked (goal.at.returns-else-rows-i c).In-Passed ∙ ap (zeroFound (goal.at.returns-else-rows-i c).In-Passed) c.if-rows-i.false)
+returns-else-rows-i c = sym (asked (goal.at.returns-else-rows-i c).In-Passed ∙ ap (zero_found (goal.at.returns-else-rows-i c).In-Passed) c.if-rows-i.false)

@@ -1,5 +1,4 @@
 -- `table::scan::field_of` meets its contract: by what the check of the field says. Assumes nothing.
--- the tag is a row's, as the rules have it
 use Prim.Native.Nat.{ℕ}
 use mathlib.Core.Bool.{Bool, ◌&&◌}
 use mathlib.Core.Option.{Option}
@@ -11,6 +10,8 @@ use Rattle.table.specs.Answers.{is_row_tag}
 use Rattle.table.proofs.Fields.{bad_found, row_found, end_found}
 use Rattle.table.proofs.scan.field_of.Goals as goal
 use Rattle.table.proofs.scan.field_of.Goals.{After-check_field}
+
+-- the tag is a row's, as the rules have it
 
 row : (c : After-check_field) → c.is_row-row.result ≡ is_row c.args.s.now
 row c = c.is_row-row.ensures ∙ ap is_row_tag c.tag_of-tag.ensures

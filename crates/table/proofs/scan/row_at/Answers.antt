@@ -1,5 +1,4 @@
 -- `table::scan::row_at` meets its contract: the tag and the numbers where they stand. Assumes nothing.
--- both forms have the ten bytes up to the rank
 use Prim.Native.Nat.{ℕ, ◌+◌, ◌≤◌}
 use mathlib.Core.List.{List}
 use mathlib.Core.Path.{sym, ◌∙◌}
@@ -11,6 +10,8 @@ use Rattle.table.specs.Walk.{tag_at}
 use Rattle.table.proofs.Rows.{word_drop}
 use Rattle.table.proofs.Walked.{size_within, tag_at_lem}
 use Rattle.table.proofs.scan.row_at.Goals as goal
+
+-- both forms have the ten bytes up to the rank
 
 ten_stand : (s : List ℕ) (at : ℕ) → at + size_of (tag_at s at) ≤ length s → at + 10 ≤ length s
 ten_stand s at h = omega (arith, h, (size_within (tag_at s at)).0)
