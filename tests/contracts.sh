@@ -2,14 +2,14 @@
 # Holds every public function of the libraries to one possible result. Each `ensures` clause must be an equation: of the result, of all
 # fields of the result, or of what a `&mut` holds at the return. A result needs one, and so does every `&mut`. For each equation the
 # crate's proofs/OneResult.antt must state, under the function's name and _lem, One (right side), with x for the `x.now`, `x.old` and `x.entry` of a parameter.
-# The programs are left out; docs/promises.md says why.
+# The programs are left out, and console, which they share: what a read gives has no equation. docs/promises.md says why.
 set -euo pipefail
 shopt -s inherit_errexit
 cd "$(dirname "$0")/../crates"
 count=0
 bad=0
 
-# The public functions of a crate, a line each: module and name.
+# The public functions of a crate, and methods of its public types, a line each: module and name.
 public_functions() {
     local module
     for module in lib $(sed -nE 's/^pub mod ([a-z0-9_]+);.*/\1/p' "$1/src/lib.rt"); do
@@ -17,6 +17,7 @@ public_functions() {
     done
     tr '\n' ' ' < "$1/src/lib.rt" | { grep -oE 'pub use [a-z0-9_]+::[^;]*;' || true; } | sed -E 's/^pub use ([a-z0-9_]+)::\{?([^;}]*)\}?;/\1 \2/' | while read -r module names; do
         tr -d ' ' <<< "$names" | tr ',' '\n' | sed -nE "s/^([a-z].*)/$module \1/p"
+        case "$names" in *[A-Z]*) sed -nE "s/^ +pub fn ([a-z0-9_]+).*/$module \1/p" "$1/src/$module.rt" ;; esac
     done
 }
 
@@ -63,7 +64,7 @@ fields_of() {
     sed -nE "/^pub struct $1\>/,/^}/s/^ +(pub )?([a-z0-9_]+):.*/\2/p" "$crate"/src/*.rt | tr '\n' ' '
 }
 
-for crate in $(sed -nE 's/^([a-z0-9_]+)( staticlib)?:.*/\1/p' ../crates.txt | grep -vxE 'plan|run'); do
+for crate in $(sed -nE 's/^([a-z0-9_]+)( staticlib)?:.*/\1/p' ../crates.txt | grep -vxE 'plan|run|console'); do
     functions=$(public_functions "$crate")
     while read -r module name; do
         [ -n "$name" ] || continue

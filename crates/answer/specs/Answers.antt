@@ -4,8 +4,10 @@ use Rattle.answer.specs.declared.Band.{Band}
 use Rattle.answer.specs.declared.Band.TheVariants.{Upper, Lower}
 use Rattle.answer.specs.declared.Runner.{Runner}
 use Rattle.answer.specs.declared.Runner.TheVariants.{Hard, Firm, Soft, Idle}
+use Rattle.answer.specs.declared.How.{How}
+use Rattle.answer.specs.declared.How.TheVariants.{Done, Spent}
 use Rattle.answer.specs.declared.Closing.{Closing}
-use Rattle.answer.specs.declared.Closing.TheVariants.{Nothing, HardDone, HardSpent, FirmDone, FirmSpent}
+use Rattle.answer.specs.declared.Closing.TheVariants.{Nothing, Hard, Firm}
 use Rattle.answer.specs.declared.Notes.{Notes}
 use Rattle.answer.specs.declared.Answer.{Answer}
 
@@ -21,13 +23,16 @@ runner_of (rules.firm t) = Firm t
 runner_of rules.soft = Soft
 runner_of rules.idle = Idle
 
+-- how a job closed
+abbrev pub how_of : rules.How → How
+how_of rules.done = Done
+how_of rules.spent = Spent
+
 -- what closed
 abbrev pub closing_of : rules.Closing → Closing
 closing_of rules.nothing = Nothing
-closing_of (rules.hard_job i rules.done) = HardDone i
-closing_of (rules.hard_job i rules.spent) = HardSpent i
-closing_of (rules.firm_job t rules.done) = FirmDone t
-closing_of (rules.firm_job t rules.spent) = FirmSpent t
+closing_of (rules.hard_job i how) = Hard i (how_of how)
+closing_of (rules.firm_job t how) = Firm t (how_of how)
 
 -- what was noted
 abbrev pub notes_of : rules.Notes → Notes

@@ -2,7 +2,7 @@
 use Rattle.std.specs.Prelude.{◌<◌}
 use Rattle.answer.specs.declared.Answer.{Answer}
 use Rattle.answer.specs.declared.Closing.{Closing}
-use Rattle.answer.specs.declared.Closing.TheVariants.{Nothing, HardDone, HardSpent, FirmDone, FirmSpent}
+use Rattle.answer.specs.declared.Closing.TheVariants.{Nothing, Hard, Firm}
 use Rattle.answer.specs.declared.Runner.{Runner}
 use Rattle.answer.specs.declared.Runner.TheVariants.{Hard, Firm, Soft, Idle}
 
@@ -16,10 +16,8 @@ RunnerBelow Idle = Unit {0}
 -- the row whose job closed
 abbrev pub ClosingBelow : Closing → Type 0
 ClosingBelow Nothing = Unit {0}
-ClosingBelow (HardDone i) = i < 16
-ClosingBelow (HardSpent i) = i < 16
-ClosingBelow (FirmDone t) = Unit {0}
-ClosingBelow (FirmSpent t) = Unit {0}
+ClosingBelow (Hard i how) = i < 16
+ClosingBelow (Firm t how) = Unit {0}
 
 -- both of an answer
 abbrev pub AnswerBelow : Answer → Type 0

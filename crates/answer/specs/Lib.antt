@@ -1,3 +1,4 @@
 pub mod Answers
 pub mod Below
 pub mod Numbers
+pub mod Text

@@ -3,8 +3,10 @@ use Rattle.std.specs.Prelude.{ℕ, ◌+◌, Bool, true, false}
 use Rattle.answer.specs.declared.Band.{Band}
 use Rattle.answer.specs.declared.Band.TheVariants.{Upper, Lower}
 use Rattle.answer.specs.declared.Closing.{Closing}
-use Rattle.answer.specs.declared.Closing.TheVariants.{Nothing, HardDone, HardSpent, FirmDone, FirmSpent}
+use Rattle.answer.specs.declared.Closing.TheVariants.{Nothing, Hard, Firm}
 use Rattle.answer.specs.declared.ClosingNumbers.{ClosingNumbers}
+use Rattle.answer.specs.declared.How.{How}
+use Rattle.answer.specs.declared.How.TheVariants.{Done, Spent}
 use Rattle.answer.specs.declared.Runner.{Runner}
 use Rattle.answer.specs.declared.Runner.TheVariants.{Hard, Firm, Soft, Idle}
 use Rattle.answer.specs.declared.RunnerNumbers.{RunnerNumbers}
@@ -34,18 +36,13 @@ runner_numbers Idle = record { kind = 4; row = 0; band = 0; ticket = 0 }
 
 -- the closing
 
--- of the row at k
-abbrev pub hard_closing : ℕ → ℕ → ClosingNumbers
-hard_closing k how = record { kind = 1; row = row_number k; how = how; ticket = 0 }
+-- how it closed
+abbrev pub how_number : How → ℕ
+how_number Done = 1
+how_number Spent = 2
 
--- of the ticket t
-abbrev pub firm_closing : ℕ → ℕ → ClosingNumbers
-firm_closing t how = record { kind = 2; row = 0; how = how; ticket = t }
-
--- its kind, with row or ticket, and how: 1 done, 2 spent
+-- its kind, with row or ticket, and how
 abbrev pub closing_numbers : Closing → ClosingNumbers
 closing_numbers Nothing = record { kind = 0; row = 0; how = 0; ticket = 0 }
-closing_numbers (HardDone k) = hard_closing k 1
-closing_numbers (HardSpent k) = hard_closing k 2
-closing_numbers (FirmDone t) = firm_closing t 1
-closing_numbers (FirmSpent t) = firm_closing t 2
+closing_numbers (Hard k how) = record { kind = 1; row = row_number k; how = how_number how; ticket = 0 }
+closing_numbers (Firm t how) = record { kind = 2; row = 0; how = how_number how; ticket = t }

@@ -1,9 +1,11 @@
-// The answer to a tick: who runs, what closed and what was noted; and who and what in numbers. Rows are counted from 0 in the answer, from 1 in the numbers.
+// The answer to a tick: who runs, what closed and what was noted; and who and what in numbers and in text. Rows are counted from 0 in the answer, from 1 in those.
 #![tactic(auto)]
+
+mod text; // text.rt: the answer as it is printed
 
 ghost use Rattle.std.specs.Prelude.{◌≡◌, ◌<◌};
 ghost use Rattle.answer.specs.Below.{ClosingBelow, RunnerBelow};
-ghost use Rattle.answer.specs.Numbers.{band_number, closing_numbers, firm_closing, flag_number, hard_closing, row_number, runner_numbers};
+ghost use Rattle.answer.specs.Numbers.{band_number, closing_numbers, how_number, row_number, runner_numbers};
 
 // The band in which a hard row runs: upper where its job is promoted.
 #[derive(Clone, Copy)]
@@ -21,14 +23,19 @@ pub enum Runner {
     Idle,
 }
 
-// What closed: nothing, or a hard row or a firm ticket, as done or as spent.
+// How a job closed: the done flag was set, or all its ticks were run.
+#[derive(Clone, Copy)]
+pub enum How {
+    Done,
+    Spent,
+}
+
+// What closed: nothing, or the job of a hard row or of a firm ticket, and how.
 #[derive(Clone, Copy)]
 pub enum Closing {
     Nothing,
-    HardDone(usize),
-    HardSpent(usize),
-    FirmDone(u32),
-    FirmSpent(u32),
+    Hard(usize, How),
+    Firm(u32, How),
 }
 
 // What a tick took as clear. unknown: release bits of rows above n (12). none_ran: the done flag, where no job ran (13).
@@ -49,8 +56,8 @@ pub struct Answer {
     pub notes: Notes,
 }
 
-// A runner in numbers; 0 where a number says nothing.
-#[derive(Drop)]
+// A runner in numbers, as the C interface gives it: a number for each kind and band, and 0 where a number says nothing.
+#[derive(Default, Drop)]
 pub struct RunnerNumbers {
     pub kind: u8,
     pub row: u8,
@@ -58,8 +65,8 @@ pub struct RunnerNumbers {
     pub ticket: u32,
 }
 
-// A closing in numbers; 0 where a number says nothing.
-#[derive(Drop)]
+// A closing in numbers, as the C interface gives it: a number for each kind and how, and 0 where a number says nothing.
+#[derive(Default, Drop)]
 pub struct ClosingNumbers {
     pub kind: u8,
     pub row: u8,
@@ -75,11 +82,28 @@ pub fn row_number(k: usize) -> u8
     k as u8 + 1
 }
 
-// A flag: 1 where it is set.
-pub fn flag_number(b: bool) -> u8
-    ensures { result ≡ flag_number b }
-{
-    b as u8
+// 1 upper, 2 lower.
+impl From<Band> for u8 {
+    ghost from_gives = { λ band n. n ≡ band_number band };
+
+    fn from(band: Band) -> u8 {
+        match band {
+            Band::Upper => 1,
+            Band::Lower => 2,
+        }
+    }
+}
+
+// 1 done, 2 spent.
+impl From<How> for u8 {
+    ghost from_gives = { λ how n. n ≡ how_number how };
+
+    fn from(how: How) -> u8 {
+        match how {
+            How::Done => 1,
+            How::Spent => 2,
+        }
+    }
 }
 
 // Who runs: 1 hard, with its row and band, 2 firm, with its ticket, 3 soft, 4 idle.
@@ -91,77 +115,43 @@ pub fn runner_numbers(runner: Runner) -> RunnerNumbers
         Runner::Hard(k, band) => RunnerNumbers {
             kind: 1,
             row: row_number(k),
-            band: band_number(band),
-            ticket: 0,
+            band: u8::from(band),
+            ..RunnerNumbers::default()
         },
         Runner::Firm(ticket) => RunnerNumbers {
             kind: 2,
-            row: 0,
-            band: 0,
             ticket,
+            ..RunnerNumbers::default()
         },
         Runner::Soft => RunnerNumbers {
             kind: 3,
-            row: 0,
-            band: 0,
-            ticket: 0,
+            ..RunnerNumbers::default()
         },
         Runner::Idle => RunnerNumbers {
             kind: 4,
-            row: 0,
-            band: 0,
-            ticket: 0,
+            ..RunnerNumbers::default()
         },
     }
 }
 
-fn band_number(band: Band) -> u8
-    ensures { result ≡ band_number band }
-{
-    match band {
-        Band::Upper => 1,
-        Band::Lower => 2,
-    }
-}
-
-// What closed: 0 nothing, 1 hard, with its row, 2 firm, with its ticket; and how: 1 done, 2 spent.
+// What closed: 0 nothing, 1 hard, with its row, 2 firm, with its ticket; and how.
 pub fn closing_numbers(closing: Closing) -> ClosingNumbers
     requires { ClosingBelow closing }
     ensures { result ≡ closing_numbers closing }
 {
     match closing {
-        Closing::Nothing => ClosingNumbers {
-            kind: 0,
-            row: 0,
-            how: 0,
-            ticket: 0,
+        Closing::Nothing => ClosingNumbers::default(),
+        Closing::Hard(k, how) => ClosingNumbers {
+            kind: 1,
+            row: row_number(k),
+            how: u8::from(how),
+            ..ClosingNumbers::default()
         },
-        Closing::HardDone(k) => hard_closing(k, 1),
-        Closing::HardSpent(k) => hard_closing(k, 2),
-        Closing::FirmDone(ticket) => firm_closing(ticket, 1),
-        Closing::FirmSpent(ticket) => firm_closing(ticket, 2),
-    }
-}
-
-fn hard_closing(k: usize, how: u8) -> ClosingNumbers
-    requires { k < 16 }
-    ensures { result ≡ hard_closing k how }
-{
-    ClosingNumbers {
-        kind: 1,
-        row: row_number(k),
-        how,
-        ticket: 0,
-    }
-}
-
-fn firm_closing(ticket: u32, how: u8) -> ClosingNumbers
-    ensures { result ≡ firm_closing ticket how }
-{
-    ClosingNumbers {
-        kind: 2,
-        row: 0,
-        how,
-        ticket,
+        Closing::Firm(ticket, how) => ClosingNumbers {
+            kind: 2,
+            how: u8::from(how),
+            ticket,
+            ..ClosingNumbers::default()
+        },
     }
 }

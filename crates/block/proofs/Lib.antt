@@ -1,7 +1,6 @@
 pub mod Entered
-pub mod Fields
 pub mod Stands
-pub mod Forms
+pub mod Widths
 pub mod Arrays
 pub mod Lengths
 pub mod Ors

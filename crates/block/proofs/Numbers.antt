@@ -29,7 +29,6 @@ margin_le false c d t m h e = omega (arith, or_none t m e)
 
 module _ (live o ran : Bool) (c d t u m run : ℕ) where
   pub hard_says : hard_fault live o ran c d t u m run ≡ 0 → HardSays live o ran c d t u m run
-  unfolding hard_fault
   hard_says e =
       let (e4, r) = or_none (bit_or (bit_or (bit_or (c - due d m) (d - t)) (u - (due d m - c))) (cond live (1 - c) (bit_or t m))) (run - cond o (most_run ran c) 0) e in
       let (e3, l) = or_none (bit_or (bit_or (c - due d m) (d - t)) (u - (due d m - c))) (cond live (1 - c) (bit_or t m)) e4 in
@@ -39,7 +38,6 @@ module _ (live o ran : Bool) (c d t u m run : ℕ) where
       record { C_le = omega arith; D_le = omega arith; U_le = omega arith; there = l; runs = omega arith }
 
   pub says_hard : HardSays live o ran c d t u m run → hard_fault live o ran c d t u m run ≡ 0
-  unfolding hard_fault
   says_hard R =
       none_or (bit_or (bit_or (bit_or (c - due d m) (d - t)) (u - (due d m - c))) (cond live (1 - c) (bit_or t m))) (run - cond o (most_run ran c) 0)
       (none_or (bit_or (bit_or (c - due d m) (d - t)) (u - (due d m - c))) (cond live (1 - c) (bit_or t m))

@@ -1,7 +1,11 @@
 -- Numbers of faults together: one more, and none. Assumes nothing.
-use Rattle.std.proofs.Common.{◌≡◌, ℕ, zero, suc, ◌+◌, ◌^◌, ◌<◌, ◌≤◌, sym, refl, not-suc-le-zero, add-one, arith, pow_pos}
+use Rattle.std.proofs.Common.{◌≡◌, ℕ, zero, suc, ◌+◌, ◌^◌, ◌<◌, ◌≤◌, cond, List, length, drop, refl, ap, ◌∙◌, not-suc-le-zero, add-zero, add-one, arith, pow_pos, length-drop, length-take-le, get_or-drop, le-ltb, lt-ltb}
+use Rattle.std.proofs.lemmas.List.{get_or-take}
+use borrow.Rule.Slice.PartMut.{mid_of}
+use lib.Dec.{ltb}
 use lib.Bits.{and_le_l, and_le_r, bit_or, or_add_and, or_lt, or_zero_r}
 use native.Mathlib.Decide.{dec_lt}
+use Rattle.state.specs.Meaning.{entry}
 use Rattle.block.specs.Tests.{or_of}
 
 -- two
@@ -29,9 +33,8 @@ module _ (f : ℕ → ℕ) where
   unfolding or_of
   or_suc i = refl
 
-  -- as a loop adds it
-  pub or_next : (i x y : ℕ) → x ≡ or_of f i → y ≡ f i → bit_or x y ≡ or_of f (i + 1)
-  or_next i x y p q = rw (p, q, add-one) (sym (or_suc i))
+  pub or_more : (i : ℕ) → or_of f (i + 1) ≡ bit_or (or_of f i) (f i)
+  or_more i = rw add-one (or_suc i)
 
   pub le_or : (n i : ℕ) → i < n → f i ≤ or_of f n
   unfolding or_of
@@ -60,3 +63,24 @@ pub or_alike : (f g : ℕ → ℕ) (n : ℕ) → ((i : ℕ) → i < n → f i �
 unfolding or_of
 or_alike f g zero h = refl
 or_alike f g (suc n) h = rw (or_alike f g n (λ i l. h i (omega arith)), h n (omega arith))
+
+-- of the n numbers of a list from a place on, as a part of it is read
+
+module _ (b : List ℕ) (at n : ℕ) (h : at + n ≤ length b) where
+  pub part_long : length (mid_of at n b) ≡ n
+  part_long = length-take-le n (drop at b) (omega (arith, length-drop at b))
+
+  pub or_part : (f : ℕ → ℕ) → or_of (λ i. f (entry (mid_of at n b) i)) (length (mid_of at n b)) ≡ or_of (λ i. f (entry b (at + i))) n
+  or_part f =
+      ap (or_of (λ i. f (entry (mid_of at n b) i))) part_long
+      ∙ or_alike (λ i. f (entry (mid_of at n b) i)) (λ i. f (entry b (at + i))) n (λ i l. ap f (get_or-take n (drop at b) i 0 l ∙ get_or-drop at b i 0))
+
+-- only those from n on count
+
+pub or_past : (f : ℕ → ℕ) (n k : ℕ) → or_of (λ i. cond (ltb i n) 0 (f i)) (n + k) ≡ or_of (λ i. f (n + i)) k
+unfolding or_of
+or_past f n zero = rw add-zero (faultless (λ i. cond (ltb i n) 0 (f i)) n (λ i l. rw (lt-ltb i n l)))
+or_past f n (suc k) =
+    let e : n + suc k ≡ suc (n + k) = omega arith in
+    let m : n ≤ n + k = omega arith in
+    rw (e, or_past f n k, le-ltb (n + k) n m)

@@ -1,6 +1,5 @@
 -- The promises of decoding and encoding, proved. Assumes nothing.
-use Rattle.std.proofs.Common.{◌≡◌, ℕ, ◌+◌, ◌<◌, Bool, true, false, cond, eqb, List, ◌++◌, length, drop, sym, refl, ap, ◌∙◌, ap₂, subst₂, append_assoc, arith, length-append, drop-drop, take_at, drop_at, eq-eqb, eqb-true}
-use mathlib.Core.Bool.{false≢true}
+use Rattle.std.proofs.Common.{◌≡◌, ℕ, ◌+◌, ◌<◌, Bool, true, false, cond, ◌&&◌, eqb, None, List, ◌++◌, length, drop, sym, refl, ap, ◌∙◌, ap₂, subst₂, append_assoc, arith, length-append, drop-drop, take_at, drop_at, eq-eqb, eqb-true}
 use lib.ListN.{get_or-replicate}
 use lib.Seq.{sets, sets-eq}
 use Rattle.rules.specs.Tables.{Bytes}
@@ -10,12 +9,12 @@ use Rattle.state.specs.Meaning.{entry}
 use Rattle.block.specs.declared.Decoded.{Decoded}
 use Rattle.block.specs.Places.{block_bytes, budget_at, clock_at, count_at, reserved_at, reserved_bytes, run_at}
 use Rattle.block.specs.Layout.{Long, head_bytes, image_of, jobs_bytes, margins_bytes, marks_bytes, numbers_bytes, queue_bytes, ranks_bytes, reserved, rows_at, state_at, state_on, table_bytes}
-use Rattle.block.specs.Tests.{decoded_as, decoded_of, image_good, refused_block}
+use Rattle.block.specs.Tests.{decoded_as, decoded_of, image_good}
 use Rattle.block.specs.Image.{BlockPromises, Imaged}
 use Rattle.block.proofs.Bytes
 use Rattle.block.proofs.Bytes.{fit_at, long_at}
 use Rattle.block.proofs.Passes.{fit, passes}
-use Rattle.block.proofs.Forms.{form8}
+use Rattle.block.proofs.Widths.{entry_moved}
 use Rattle.block.proofs.Lengths.{head_long, image_long, jobs_long, queue_long, ranks_long, table_long}
 use Rattle.block.proofs.Meant.{imaged}
 use Rattle.block.proofs.Tested.{Checked, Free, image_iff}
@@ -35,7 +34,7 @@ module _ (rows : Rows) (s : State) (I : Imaged rows s) where
   free : Free (image_of rows s)
   free = record {
     front = free_back rows s L (fit rows s I);
-    behind = λ i h. form8.moved (image_of rows s) reserved_at i ∙ ap (λ l. entry l i) (reserved_stands rows s L (fit rows s I)) ∙ reserved_zero i h;
+    behind = λ i h. entry_moved (image_of rows s) reserved_at i ∙ ap (λ l. entry l i) (reserved_stands rows s L (fit rows s I)) ∙ reserved_zero i h;
   }
 
   image_good_lem : image_good (image_of rows s) ≡ true
@@ -59,11 +58,13 @@ module _ (b : List ℕ) (bytes : Bytes b) where
   unfolding decoded_of
   decode_only rows s e = go (eqb (length b) block_bytes) refl (image_good b) refl e
     where
-      go : (x : Bool) → eqb (length b) block_bytes ≡ x → (y : Bool) → image_good b ≡ y → cond x (cond y (decoded_as (rows_at b) (state_at b)) refused_block) refused_block ≡ decoded_as rows s
+      go : (x : Bool) → eqb (length b) block_bytes ≡ x → (y : Bool) → image_good b ≡ y → cond (x && y) (decoded_as (rows_at b) (state_at b)) None ≡ decoded_as rows s
           → (b ≡ image_of rows s) × Imaged rows s
-      go true p true q e = subst₂ (λ r t. (b ≡ image_of r t) × Imaged r t) (ap (λ (d : Decoded). d.rows) e) (ap (λ (d : Decoded). d.state) e) (accepted (eqb-true (length b) block_bytes p) q)
-      go true p false q e = absurd (false≢true (ap (λ (d : Decoded). d.ok) e))
-      go false p y q e = absurd (false≢true (ap (λ (d : Decoded). d.ok) e))
+      go true p true q e =
+          let same : ◌≡◌ {A = Decoded} (record { rows = rows_at b; state = state_at b }) (record { rows = rows; state = s }) = cc in
+          subst₂ (λ r t. (b ≡ image_of r t) × Imaged r t) (ap (λ (d : Decoded). d.rows) same) (ap (λ (d : Decoded). d.state) same) (accepted (eqb-true (length b) block_bytes p) q)
+      go true p false q e = cc
+      go false p y q e = cc
 
 -- what a call changes, written over the image before
 
@@ -105,7 +106,7 @@ module _ (rows : Rows) (s after : State) (L : Long rows s) (M : Long rows after)
       ∙ sym (regroup_5 head (table_bytes rows) (jobs_bytes after) (ranks_bytes rows) (queue_bytes after ++ rest))
 
   pub write_image : state_on (image_of rows s) after ≡ image_of rows after
-  unfolding state_on image_of
+  unfolding image_of
   write_image =
       let kept = margins_bytes rows ++ reserved in
       ap (λ l. sets l budget_at (queue_bytes after)) (ap (λ l. sets l run_at (jobs_bytes after)) (head_over (table_bytes rows ++ (jobs_bytes s ++ (ranks_bytes rows ++ (queue_bytes s ++ kept))))) ∙ jobs_over (ranks_bytes rows ++ (queue_bytes s ++ kept)))
@@ -113,7 +114,7 @@ module _ (rows : Rows) (s after : State) (L : Long rows s) (M : Long rows after)
 
 pub block_promises : BlockPromises
 block_promises = record {
-  image_bytes = λ rows s I. (Bytes.image_bytes rows s (fit rows s I), image_long rows s I.long);
+  image_bytes = λ rows s I. (Bytes.image_bytes rows s, image_long rows s I.long);
   decode_encode = decode_encode;
   decode_only = decode_only;
   write_image = write_image;

@@ -12,7 +12,8 @@ use Rattle.state.specs.declared.Rows.{Rows}
 use Rattle.state.specs.declared.State.{State}
 use Rattle.state.proofs.Bits.{bit_known, bit_of_or, bit_others, known_lt}
 use Rattle.block.specs.Places.{C_at, D_at, M_at, T_at, U_at, budget_at, clock_at, count_at, free_at, last_at, n_at, next_at, open_at, rank_at, reserved_at, reserved_bytes, rested_at, run_at, stamp_at, ticket_at, used_at}
-use Rattle.block.specs.Words.{le16, le16s_at, le32}
+use Rattle.block.specs.Words.{le, les_at}
+use Rattle.block.proofs.Widths.{one_byte}
 use Rattle.block.specs.Layout.{rows_at, state_at}
 use Rattle.block.specs.Tests
 use Rattle.block.specs.Tests.{fields_good, firm_fault, firm_mark, free_good, hard_fault, image_good, jobs_good, or_of, queue_good, rank_bit, rest_good, row_mark, stamp_fault, table_good, times_good}
@@ -51,13 +52,13 @@ pub record TestsSay (b : List ℕ) : Type 0 where
   pub once : or_of (rank_bit b) (entry b n_at) ≡ known (entry b n_at)
   pub low : or_of (λ i. entry b (rank_at + i)) 16 < 32
   pub blank : (i : ℕ) → i < 16 → Tests.past_fault b (entry b n_at) i ≡ 0
-  pub runs : (i : ℕ) → i < 16 → Tests.hard_fault_at b (known (entry b n_at)) (le16 b open_at) (row_mark (entry b last_at)) i ≡ 0
-  pub opens : le16 b open_at ≤ known (entry b n_at)
-  pub stamps : (i : ℕ) → i < 16 → Tests.stamp_fault_at b (bit_or (le16 b rested_at) (others (known (entry b n_at)))) (le32 b clock_at) i ≡ 0
-  pub rests : le16 b rested_at ≤ known (entry b n_at)
+  pub runs : (i : ℕ) → i < 16 → Tests.hard_fault_at b (known (entry b n_at)) (le 2 b open_at) (row_mark (entry b last_at)) i ≡ 0
+  pub opens : le 2 b open_at ≤ known (entry b n_at)
+  pub stamps : (i : ℕ) → i < 16 → Tests.stamp_fault_at b (bit_or (le 2 b rested_at) (others (known (entry b n_at)))) (le 4 b clock_at) i ≡ 0
+  pub rests : le 2 b rested_at ≤ known (entry b n_at)
   pub firms : (j : ℕ) → j < 8 → Tests.firm_fault_at b (known (entry b count_at)) (firm_mark (entry b last_at)) j ≡ 0
-  pub tickets : (j : ℕ) → j < 8 → Tests.ticket_fault_at b (known (entry b count_at)) (wrapped (le32 b next_at) (entry b count_at)) j ≡ 0
-  pub last : Tests.last_good b (entry b last_at) (le16 b open_at) (entry b count_at) ≡ true
+  pub tickets : (j : ℕ) → j < 8 → Tests.ticket_fault_at b (known (entry b count_at)) (wrapped (le 4 b next_at) (entry b count_at)) j ≡ 0
+  pub last : Tests.last_good b (entry b last_at) (le 2 b open_at) (entry b count_at) ≡ true
   pub free : Free b
 
 -- small tests
@@ -85,40 +86,34 @@ last_low s e = go (ltb s.last 16) refl (eqb s.last 16) refl (eqb s.last 17) refl
 module _ (b : List ℕ) where
   table_iff : (table_good b (entry b n_at) ≡ true)
       ↔ (((or_of (rank_bit b) (entry b n_at) ≡ known (entry b n_at)) × (or_of (λ i. entry b (rank_at + i)) 16 < 32)) × ((i : ℕ) → i < 16 → Tests.past_fault b (entry b n_at) i ≡ 0))
-  unfolding table_good Tests.ranks_once Tests.ranks_low Tests.ranks_blank
   table_iff =
       let ranks = or_of (rank_bit b) (entry b n_at) in
       let all = or_of (λ i. entry b (rank_at + i)) 16 in
       and_iff (and_iff (eqb-true ranks (known (entry b n_at)), eq-eqb ranks (known (entry b n_at))) (ltb-true all 32, lt-ltb all 32)) (faults_iff (Tests.past_fault b (entry b n_at)) 16)
 
   jobs_iff : (jobs_good b (known (entry b n_at)) (entry b last_at) ≡ true)
-      ↔ (((i : ℕ) → i < 16 → Tests.hard_fault_at b (known (entry b n_at)) (le16 b open_at) (row_mark (entry b last_at)) i ≡ 0) × (le16 b open_at ≤ known (entry b n_at)))
-  unfolding jobs_good Tests.rows_good
-  jobs_iff = and_iff (faults_iff (Tests.hard_fault_at b (known (entry b n_at)) (le16 b open_at) (row_mark (entry b last_at))) 16) (le_iff (le16 b open_at) (known (entry b n_at)))
+      ↔ (((i : ℕ) → i < 16 → Tests.hard_fault_at b (known (entry b n_at)) (le 2 b open_at) (row_mark (entry b last_at)) i ≡ 0) × (le 2 b open_at ≤ known (entry b n_at)))
+  jobs_iff = and_iff (faults_iff (Tests.hard_fault_at b (known (entry b n_at)) (le 2 b open_at) (row_mark (entry b last_at))) 16) (le_iff (le 2 b open_at) (known (entry b n_at)))
 
   times_iff : (times_good b (known (entry b n_at)) ≡ true)
-      ↔ (((i : ℕ) → i < 16 → Tests.stamp_fault_at b (bit_or (le16 b rested_at) (others (known (entry b n_at)))) (le32 b clock_at) i ≡ 0) × (le16 b rested_at ≤ known (entry b n_at)))
-  unfolding times_good Tests.stamps_good
-  times_iff = and_iff (faults_iff (Tests.stamp_fault_at b (bit_or (le16 b rested_at) (others (known (entry b n_at)))) (le32 b clock_at)) 16) (le_iff (le16 b rested_at) (known (entry b n_at)))
+      ↔ (((i : ℕ) → i < 16 → Tests.stamp_fault_at b (bit_or (le 2 b rested_at) (others (known (entry b n_at)))) (le 4 b clock_at) i ≡ 0) × (le 2 b rested_at ≤ known (entry b n_at)))
+  times_iff = and_iff (faults_iff (Tests.stamp_fault_at b (bit_or (le 2 b rested_at) (others (known (entry b n_at)))) (le 4 b clock_at)) 16) (le_iff (le 2 b rested_at) (known (entry b n_at)))
 
   queue_iff : (queue_good b (entry b count_at) (entry b last_at) ≡ true)
       ↔ (((j : ℕ) → j < 8 → Tests.firm_fault_at b (known (entry b count_at)) (firm_mark (entry b last_at)) j ≡ 0)
-      × ((j : ℕ) → j < 8 → Tests.ticket_fault_at b (known (entry b count_at)) (wrapped (le32 b next_at) (entry b count_at)) j ≡ 0))
-  unfolding queue_good Tests.firms_good Tests.tickets_good
+      × ((j : ℕ) → j < 8 → Tests.ticket_fault_at b (known (entry b count_at)) (wrapped (le 4 b next_at) (entry b count_at)) j ≡ 0))
   queue_iff =
       and_iff (faults_iff (Tests.firm_fault_at b (known (entry b count_at)) (firm_mark (entry b last_at))) 8)
-      (faults_iff (Tests.ticket_fault_at b (known (entry b count_at)) (wrapped (le32 b next_at) (entry b count_at))) 8)
+      (faults_iff (Tests.ticket_fault_at b (known (entry b count_at)) (wrapped (le 4 b next_at) (entry b count_at))) 8)
 
   free_iff : (free_good b ≡ true) ↔ Free b
-  unfolding free_good
   free_iff =
       let f : ℕ → ℕ = λ i. entry b (reserved_at + i) in (
         λ e. let (behind, front) = or_none (or_of f reserved_bytes) (entry b free_at) (eqb-true (bit_or (or_of f reserved_bytes) (entry b free_at)) 0 e) in record { front = front; behind = no_fault f reserved_bytes behind },
         λ F. eq-eqb (bit_or (or_of f reserved_bytes) (entry b free_at)) 0 (none_or (or_of f reserved_bytes) (entry b free_at) (faultless f reserved_bytes F.behind) F.front),
       )
 
-  rest_iff : (rest_good b (entry b count_at) (entry b last_at) ≡ true) ↔ ((Tests.last_good b (entry b last_at) (le16 b open_at) (entry b count_at) ≡ true) × Free b)
-  unfolding rest_good
+  rest_iff : (rest_good b (entry b count_at) (entry b last_at) ≡ true) ↔ ((Tests.last_good b (entry b last_at) (le 2 b open_at) (entry b count_at) ≡ true) × Free b)
   rest_iff = and_iff Iff.rfl free_iff
 
   fields_iff : (fields_good b (entry b n_at) (entry b count_at) (entry b last_at) ≡ true) ↔ TestsSay b
@@ -137,22 +132,22 @@ module _ (b : List ℕ) where
   abbrev s : State
   s = state_at b
 
-  row_entry : (at i : ℕ) → i < 16 → entry (le16s_at b at 16) i ≡ le16 b (at + 2 * i)
-  row_entry at i h = entry_is (λ j. le16 b (at + 2 * j)) 16 i h
+  row_entry : (at i : ℕ) → i < 16 → entry (les_at 2 b at 16) i ≡ le 2 b (at + 2 * i)
+  row_entry at i h = entry_is (λ j. le 2 b (at + 2 * j)) 16 i h
 
-  firm_entry : (at i : ℕ) → i < 8 → entry (le16s_at b at 8) i ≡ le16 b (at + 2 * i)
-  firm_entry at i h = entry_is (λ j. le16 b (at + 2 * j)) 8 i h
+  firm_entry : (at i : ℕ) → i < 8 → entry (les_at 2 b at 8) i ≡ le 2 b (at + 2 * i)
+  firm_entry at i h = entry_is (λ j. le 2 b (at + 2 * j)) 8 i h
 
   rank_entry : (i : ℕ) → i < 16 → entry rows.table.rank i ≡ entry b (rank_at + i)
-  rank_entry i h = entry_is (λ j. entry b (rank_at + 1 * j)) 16 i h ∙ ap (λ k. entry b (rank_at + k)) (one-mul i)
+  rank_entry i h = entry_is (λ j. le 1 b (rank_at + 1 * j)) 16 i h ∙ one_byte b (rank_at + 1 * i) ∙ ap (λ k. entry b (rank_at + k)) (one-mul i)
 
   last_same : last_test s ≡ Tests.last_good b s.last s.«open» s.count
-  unfolding last_test Tests.last_good
+  unfolding last_test
   last_same = go (ltb (entry b last_at) 16) refl
     where
       go : (a : Bool) → ltb (entry b last_at) 16 ≡ a
-          → cond a (bit (le16 b open_at) (entry b last_at) && ltb 0 (entry (le16s_at b run_at 16) (entry b last_at))) (cond (eqb (entry b last_at) 16) (ltb 0 (entry b count_at) && ltb 0 (entry (le16s_at b used_at 8) 0)) (eqb (entry b last_at) 17))
-          ≡ cond a (bit (le16 b open_at) (entry b last_at) && ltb 0 (le16 b (run_at + 2 * entry b last_at))) (cond (eqb (entry b last_at) 16) (ltb 0 (entry b count_at) && ltb 0 (le16 b used_at)) (eqb (entry b last_at) 17))
+          → cond a (bit (le 2 b open_at) (entry b last_at) && ltb 0 (entry (les_at 2 b run_at 16) (entry b last_at))) (cond (eqb (entry b last_at) 16) (ltb 0 (entry b count_at) && ltb 0 (entry (les_at 2 b used_at 8) 0)) (eqb (entry b last_at) 17))
+          ≡ cond a (bit (le 2 b open_at) (entry b last_at) && ltb 0 (le 2 b (run_at + 2 * entry b last_at))) (cond (eqb (entry b last_at) 16) (ltb 0 (entry b count_at) && ltb 0 (le 2 b used_at)) (eqb (entry b last_at) 17))
       go true e = rw (row_entry run_at (entry b last_at) (ltb-true (entry b last_at) 16 e))
       go false e = rw (firm_entry used_at 0 (omega arith))
 
@@ -166,7 +161,7 @@ module _ (b : List ℕ) where
     stamp_same i h =
         let e : (bit s.rested i || not (ltb i rows.table.n)) ≡ bit (bit_or s.rested (others (known rows.table.n))) i =
         sym (bit_of_or s.rested (others (known rows.table.n)) i ∙ ap (λ x. bit s.rested i || x) (bit_others (known rows.table.n) i (known_lt rows.table.n) h ∙ ap not (bit_known rows.table.n i few))) in
-        rw (e, row_entry T_at i h, entry_is (λ j. le32 b (stamp_at + 4 * j)) 16 i h)
+        rw (e, row_entry T_at i h, entry_is (λ j. le 4 b (stamp_at + 4 * j)) 16 i h)
 
     firm_same : (j : ℕ) → j < 8 → firm_fault (ltb j s.count) (eqb j 0 && eqb 16 s.last) (entry s.budget j) (entry s.used j)
         ≡ Tests.firm_fault_at b (known s.count) (firm_mark s.last) j
@@ -174,7 +169,7 @@ module _ (b : List ℕ) where
 
     ticket_same : (j : ℕ) → j < 8 → bit_xor (entry s.ticket j) (cond (ltb j s.count) ((wrapped s.next s.count + j) % 2 ^ 32) 0)
         ≡ Tests.ticket_fault_at b (known s.count) (wrapped s.next s.count) j
-    ticket_same j h = rw (entry_is (λ k. le32 b (ticket_at + 4 * k)) 8 j h, ← bit_known s.count j (omega arith))
+    ticket_same j h = rw (entry_is (λ k. le 4 b (ticket_at + 4 * k)) 8 j h, ← bit_known s.count j (omega arith))
 
     rank_same : (i : ℕ) → i < rows.table.n → 2 ^ (entry rows.table.rank i % 32) ≡ rank_bit b i
     rank_same i h = rw (rank_entry i (omega arith))
@@ -218,7 +213,6 @@ module _ (b : List ℕ) where
             go false e = rw (rank_entry i h) at (C.rank_past i h (ltb-false i rows.table.n e))
 
   pub image_iff : (image_good b ≡ true) ↔ (Checked rows s × Free b)
-  unfolding image_good
   image_iff = (λ e. go (ltb 16 rows.table.n) refl (ltb 8 s.count) refl e, fro)
     where
       go : (x : Bool) → ltb 16 rows.table.n ≡ x → (y : Bool) → ltb 8 s.count ≡ y → cond x false (cond y false (fields_good b rows.table.n s.count s.last)) ≡ true → Checked rows s × Free b

@@ -1,32 +1,31 @@
 -- A block whose free bytes are 0 is the image of what is read from it. Assumes nothing.
-use Rattle.std.proofs.Common.{◌≡◌, ℕ, ◌+◌, ◌%◌, ◌<◌, List, ◌++◌, length, drop, replicate, sym, ap, ◌∙◌, append-nil, arith, length-drop, drop_of_length-le, get_or-drop, ext_get_or}
+use Rattle.std.proofs.Common.{◌≡◌, ℕ, ◌+◌, ◌<◌, List, ◌++◌, length, drop, replicate, sym, ap, ◌∙◌, subst, append-nil, arith, length-drop, drop_of_length-le, get_or-drop, ext_get_or}
 use lib.ListN.{get_or-replicate, length-replicate}
 use Rattle.rules.specs.Tables.{Bytes}
-use Rattle.rules.proofs.Fields.{byte_lt}
 use Rattle.state.specs.Meaning.{entry}
 use Rattle.block.specs.Places.{C_at, D_at, M_at, T_at, U_at, block_bytes, budget_at, clock_at, count_at, free_at, last_at, n_at, next_at, open_at, rank_at, reserved_at, reserved_bytes, rested_at, run_at, stamp_at, ticket_at, used_at}
-use Rattle.block.specs.Words.{le8_bytes}
+use Rattle.block.specs.Words.{le_bytes}
 use Rattle.block.specs.Layout.{head_bytes, image_of, jobs_bytes, marks_bytes, numbers_bytes, queue_bytes, reserved, rows_at, state_at, table_bytes}
 use Rattle.block.proofs.Arrays.{numbers_stand}
-use Rattle.block.proofs.Forms.{form16, form32, form8}
 use Rattle.block.proofs.Stands.{Stands, join}
+use Rattle.block.proofs.Widths.{one_byte, stands}
 
 module _ (b : List ℕ) (bytes : Bytes b) (long : length b ≡ block_bytes)
     (free : entry b free_at ≡ 0) (blank : (i : ℕ) → i < reserved_bytes → entry b (reserved_at + i) ≡ 0) where
-  byte : (k : ℕ) → k < block_bytes → Stands b k (le8_bytes (entry b k % 256)) (drop (k + 1) b)
-  byte k h = let e : entry b k % 256 ≡ entry b k = omega (arith, byte_lt b bytes k) in record { is = (form8.stands b bytes k (omega arith)).is ∙ ap (λ x. le8_bytes x ++ drop (k + 1) b) (sym e) }
+  byte : (k : ℕ) → k < block_bytes → Stands b k (le_bytes 1 (entry b k)) (drop (k + 1) b)
+  byte k h = rw (← one_byte b k) (stands b bytes 1 k (omega arith))
 
-  free_stands : Stands b free_at (le8_bytes 0) (drop clock_at b)
-  free_stands = record { is = (form8.stands b bytes free_at (omega arith)).is ∙ ap (λ x. le8_bytes x ++ drop clock_at b) free }
+  free_stands : Stands b free_at (le_bytes 1 0) (drop clock_at b)
+  free_stands = subst (λ x. Stands b free_at (le_bytes 1 x) (drop clock_at b)) free (byte free_at (omega arith))
 
   marks_stand : Stands b count_at (marks_bytes (state_at b)) (drop free_at b)
   marks_stand = join last_at (byte count_at (omega arith)) (byte last_at (omega arith))
 
   numbers_are : Stands b clock_at (numbers_bytes (state_at b)) (drop C_at b)
   numbers_are =
-      join next_at (form32.stands b bytes clock_at (omega arith))
-      (join open_at (form32.stands b bytes next_at (omega arith))
-      (join rested_at (form16.stands b bytes open_at (omega arith)) (form16.stands b bytes rested_at (omega arith))))
+      join next_at (stands b bytes 4 clock_at (omega arith))
+      (join open_at (stands b bytes 4 next_at (omega arith))
+      (join rested_at (stands b bytes 2 open_at (omega arith)) (stands b bytes 2 rested_at (omega arith))))
 
   head_stands : Stands b n_at (head_bytes (entry b n_at) (state_at b)) (drop C_at b)
   unfolding head_bytes
@@ -35,19 +34,19 @@ module _ (b : List ℕ) (bytes : Bytes b) (long : length b ≡ block_bytes)
   table_stands : Stands b C_at (table_bytes (rows_at b)) (drop run_at b)
   unfolding table_bytes
   table_stands =
-      join D_at (numbers_stand form16 b bytes C_at 16 (omega arith))
-      (join T_at (numbers_stand form16 b bytes D_at 16 (omega arith))
-      (join U_at (numbers_stand form16 b bytes T_at 16 (omega arith)) (numbers_stand form16 b bytes U_at 16 (omega arith))))
+      join D_at (numbers_stand 2 b bytes C_at 16 (omega arith))
+      (join T_at (numbers_stand 2 b bytes D_at 16 (omega arith))
+      (join U_at (numbers_stand 2 b bytes T_at 16 (omega arith)) (numbers_stand 2 b bytes U_at 16 (omega arith))))
 
   jobs_stand : Stands b run_at (jobs_bytes (state_at b)) (drop rank_at b)
   unfolding jobs_bytes
-  jobs_stand = join stamp_at (numbers_stand form16 b bytes run_at 16 (omega arith)) (numbers_stand form32 b bytes stamp_at 16 (omega arith))
+  jobs_stand = join stamp_at (numbers_stand 2 b bytes run_at 16 (omega arith)) (numbers_stand 4 b bytes stamp_at 16 (omega arith))
 
   queue_stands : Stands b budget_at (queue_bytes (state_at b)) (drop M_at b)
   unfolding queue_bytes
   queue_stands =
-      join used_at (numbers_stand form16 b bytes budget_at 8 (omega arith))
-      (join ticket_at (numbers_stand form16 b bytes used_at 8 (omega arith)) (numbers_stand form32 b bytes ticket_at 8 (omega arith)))
+      join used_at (numbers_stand 2 b bytes budget_at 8 (omega arith))
+      (join ticket_at (numbers_stand 2 b bytes used_at 8 (omega arith)) (numbers_stand 4 b bytes ticket_at 8 (omega arith)))
 
   reserved_is : drop reserved_at b ≡ reserved
   unfolding reserved
@@ -67,7 +66,7 @@ module _ (b : List ℕ) (bytes : Bytes b) (long : length b ≡ block_bytes)
       join C_at head_stands
       (join run_at table_stands
       (join rank_at jobs_stand
-      (join budget_at (numbers_stand form8 b bytes rank_at 16 (omega arith))
+      (join budget_at (numbers_stand 1 b bytes rank_at 16 (omega arith))
       (join M_at queue_stands
-      (join reserved_at (numbers_stand form16 b bytes M_at 16 (omega arith)) reserved_stands))))) in
+      (join reserved_at (numbers_stand 2 b bytes M_at 16 (omega arith)) reserved_stands))))) in
       sym (all.is ∙ ap (λ l. image_of (rows_at b) (state_at b) ++ l) (drop_of_length-le b {i = block_bytes} (omega arith)) ∙ append-nil (image_of (rows_at b) (state_at b)))

@@ -5,31 +5,31 @@ use Rattle.state.specs.Meaning.{entry}
 use Rattle.state.specs.declared.Rows.{Rows}
 use Rattle.state.specs.declared.State.{State}
 use Rattle.block.specs.Places.{C_at, D_at, M_at, T_at, U_at, block_bytes, budget_at, clock_at, count_at, last_at, n_at, next_at, open_at, rank_at, reserved_bytes, rested_at, run_at, stamp_at, ticket_at, used_at}
-use Rattle.block.specs.Words.{joined, le16, le16_bytes, le16s_at, le32, le32_bytes, le32s_at, le8_bytes, le8s_at}
+use Rattle.block.specs.Words.{joined, le, le_bytes, les_at}
 
 -- read
 
 -- what no tick changes
 abbrev pub rows_at : List ℕ → Rows
 rows_at b = record {
-  table = record { n = entry b n_at; c = le16s_at b C_at 16; d = le16s_at b D_at 16; t = le16s_at b T_at 16; rank = le8s_at b rank_at 16; m = le16s_at b M_at 16 };
-  u = le16s_at b U_at 16;
+  table = record { n = entry b n_at; c = les_at 2 b C_at 16; d = les_at 2 b D_at 16; t = les_at 2 b T_at 16; rank = les_at 1 b rank_at 16; m = les_at 2 b M_at 16 };
+  u = les_at 2 b U_at 16;
 }
 
 -- what ticks and offers change
 abbrev pub state_at : List ℕ → State
 state_at b = record {
-  clock = le32 b clock_at;
-  next = le32 b next_at;
-  «open» = le16 b open_at;
-  rested = le16 b rested_at;
+  clock = le 4 b clock_at;
+  next = le 4 b next_at;
+  «open» = le 2 b open_at;
+  rested = le 2 b rested_at;
   last = entry b last_at;
   count = entry b count_at;
-  run = le16s_at b run_at 16;
-  stamp = le32s_at b stamp_at 16;
-  budget = le16s_at b budget_at 8;
-  used = le16s_at b used_at 8;
-  ticket = le32s_at b ticket_at 8;
+  run = les_at 2 b run_at 16;
+  stamp = les_at 4 b stamp_at 16;
+  budget = les_at 2 b budget_at 8;
+  used = les_at 2 b used_at 8;
+  ticket = les_at 4 b ticket_at 8;
 }
 
 -- the image, part after part, each from a place up to the next part's
@@ -40,7 +40,7 @@ marks_bytes s = s.count % 256 ∷ s.last % 256 ∷ []
 
 -- from clock_at: the clock, the next ticket, the open rows, the rested rows
 abbrev pub numbers_bytes : State → List ℕ
-numbers_bytes s = le32_bytes s.clock ++ (le32_bytes s.next ++ (le16_bytes s.«open» ++ le16_bytes s.rested))
+numbers_bytes s = le_bytes 4 s.clock ++ (le_bytes 4 s.next ++ (le_bytes 2 s.«open» ++ le_bytes 2 s.rested))
 
 -- from n_at: how many rows, the marks, the free byte, the numbers
 unfoldable pub head_bytes : ℕ → State → List ℕ
@@ -48,23 +48,23 @@ head_bytes n s = n % 256 ∷ (marks_bytes s ++ (0 ∷ numbers_bytes s))
 
 -- from C_at
 unfoldable pub table_bytes : Rows → List ℕ
-table_bytes rows = joined le16_bytes rows.table.c ++ (joined le16_bytes rows.table.d ++ (joined le16_bytes rows.table.t ++ joined le16_bytes rows.u))
+table_bytes rows = joined (le_bytes 2) rows.table.c ++ (joined (le_bytes 2) rows.table.d ++ (joined (le_bytes 2) rows.table.t ++ joined (le_bytes 2) rows.u))
 
 -- from run_at
 unfoldable pub jobs_bytes : State → List ℕ
-jobs_bytes s = joined le16_bytes s.run ++ joined le32_bytes s.stamp
+jobs_bytes s = joined (le_bytes 2) s.run ++ joined (le_bytes 4) s.stamp
 
 -- from rank_at
 abbrev pub ranks_bytes : Rows → List ℕ
-ranks_bytes rows = joined le8_bytes rows.table.rank
+ranks_bytes rows = joined (le_bytes 1) rows.table.rank
 
 -- from budget_at
 unfoldable pub queue_bytes : State → List ℕ
-queue_bytes s = joined le16_bytes s.budget ++ (joined le16_bytes s.used ++ joined le32_bytes s.ticket)
+queue_bytes s = joined (le_bytes 2) s.budget ++ (joined (le_bytes 2) s.used ++ joined (le_bytes 4) s.ticket)
 
 -- from M_at
 abbrev pub margins_bytes : Rows → List ℕ
-margins_bytes rows = joined le16_bytes rows.table.m
+margins_bytes rows = joined (le_bytes 2) rows.table.m
 
 -- from reserved_at
 unfoldable pub reserved : List ℕ
@@ -95,7 +95,7 @@ unfoldable pub encoded_on : List ℕ → Rows → State → List ℕ
 encoded_on b rows s = cond (length b == block_bytes) (image_of rows s) b
 
 -- what a tick or an offer changes, over the image of the state before
-unfoldable pub state_on : List ℕ → State → List ℕ
+abbrev pub state_on : List ℕ → State → List ℕ
 state_on b s = sets (sets (sets (sets b count_at (marks_bytes s)) clock_at (numbers_bytes s)) run_at (jobs_bytes s)) budget_at (queue_bytes s)
 
 -- the same on a block of the right length; any other list stays

@@ -1,118 +1,118 @@
-// Little-endian numbers in lent bytes, and arrays of them: read and put at a place.
-ghost use Rattle.std.specs.Prelude.{◌≡◌, ◌+◌, ◌*◌, ◌<◌, ◌≤◌, length};
-ghost use Rattle.block.specs.Words.{le16, le32, le8s_at, le16s_at, le32s_at, le8_bytes, le16_bytes, le32_bytes, joined, Put};
+// The bytes of a block, and little-endian numbers and arrays of them: read and put at a place.
+ghost use Rattle.std.specs.Prelude.{◌≡◌, ℕ, ◌+◌, ◌*◌, ◌≤◌, List, length, refl};
+ghost use Rattle.block.specs.Places.{block_bytes};
+ghost use Rattle.block.specs.Words.{le, le_bytes, numbers_at, joined, Put};
 
-pub fn get16(b: &[u8], at: usize) -> u16
-    requires { at + 2 ≤ length b.now }
-    ensures { result ≡ le16 b.now at }
-{
-    wide(b[at]) + wide(b[at + 1]) * 256
+use crate::places::BLOCK_BYTES;
+
+// All code within the crate takes a block by this type, whose length nobody has to test.
+pub type Block = [u8; BLOCK_BYTES];
+
+// A number as it stands in a block: WIDTH bytes, the low one first. read: the number at a place; bytes: those of a number.
+// That a number fits where it stands is asked at each place: a type of places would hold the same two numbers, and say no more.
+pub trait Number: Copy + Default {
+    ghost WIDTH: { ℕ };
+
+    const WIDTH: usize;
+
+    ghost read: { List ℕ → ℕ → Self };
+
+    ghost bytes: { Self → List ℕ };
+
+    fn get(b: &Block, at: usize) -> Self
+        requires { at + WIDTH ≤ block_bytes }
+        ensures { result ≡ read b.now at };
+
+    fn put(self, b: &mut Block, at: usize)
+        requires { at + WIDTH ≤ block_bytes }
+        ensures { Put b.old b.new (bytes self) at (at + WIDTH) };
+
+    // Each number has as many bytes as its type is wide.
+    ghost wide: { (x : Self) → length (bytes x) ≡ WIDTH };
 }
 
-pub fn get32(b: &[u8], at: usize) -> u32
-    requires { at + 4 ≤ length b.now }
-    ensures { result ≡ le32 b.now at }
-{
-    wider(get16(b, at)) + wider(get16(b, at + 2)) * 65536
-}
+impl Number for u8 {
+    ghost WIDTH = { 1 };
 
-// An array is read as long as what is lent for it.
-pub fn get8s(b: &[u8], at: usize, a: &mut [u8])
-    requires { at + length a.old ≤ length b.now }
-    ensures { a.new ≡ le8s_at b.now at (length a.old) }
-{
-    let mut i: usize = 0;
-    while i < a.len() {
-        a[i] = b[at + i];
-        i += 1;
+    const WIDTH: usize = 1;
+
+    ghost read = { le 1 };
+
+    ghost bytes = { le_bytes 1 };
+
+    ghost wide = { λ _. refl };
+
+    fn get(b: &Block, at: usize) -> u8 {
+        b[at]
+    }
+
+    fn put(self, b: &mut Block, at: usize) {
+        b[at] = self;
     }
 }
 
-pub fn get16s(b: &[u8], at: usize, a: &mut [u16])
-    requires { at + 2 * length a.old ≤ length b.now }
-    ensures { a.new ≡ le16s_at b.now at (length a.old) }
-{
-    let mut i: usize = 0;
-    while i < a.len() {
-        a[i] = get16(b, at + 2 * i);
-        i += 1;
+impl Number for u16 {
+    ghost WIDTH = { 2 };
+
+    const WIDTH: usize = 2;
+
+    ghost read = { le 2 };
+
+    ghost bytes = { le_bytes 2 };
+
+    ghost wide = { λ _. refl };
+
+    fn get(b: &Block, at: usize) -> u16 {
+        u16::from_le_bytes([b[at], b[at + 1]])
+    }
+
+    fn put(self, b: &mut Block, at: usize) {
+        let [low, high] = self.to_le_bytes();
+        b[at] = low;
+        b[at + 1] = high;
     }
 }
 
-pub fn get32s(b: &[u8], at: usize, a: &mut [u32])
-    requires { at + 4 * length a.old ≤ length b.now }
-    ensures { a.new ≡ le32s_at b.now at (length a.old) }
-{
-    let mut i: usize = 0;
-    while i < a.len() {
-        a[i] = get32(b, at + 4 * i);
-        i += 1;
+impl Number for u32 {
+    ghost WIDTH = { 4 };
+
+    const WIDTH: usize = 4;
+
+    ghost read = { le 4 };
+
+    ghost bytes = { le_bytes 4 };
+
+    ghost wide = { λ _. refl };
+
+    fn get(b: &Block, at: usize) -> u32 {
+        u32::from_le_bytes([b[at], b[at + 1], b[at + 2], b[at + 3]])
+    }
+
+    fn put(self, b: &mut Block, at: usize) {
+        let [first, second, third, fourth] = self.to_le_bytes();
+        b[at] = first;
+        b[at + 1] = second;
+        b[at + 2] = third;
+        b[at + 3] = fourth;
     }
 }
 
-pub fn put16(b: &mut [u8], at: usize, x: u16)
-    requires { at + 2 ≤ length b.old }
-    ensures { Put b.old b.new (le16_bytes x) at (at + 2) }
+pub fn get_all<N: Number, const K: usize>(b: &Block, at: usize) -> [N; K]
+    requires { at + N.WIDTH * K ≤ block_bytes }
+    ensures { result ≡ numbers_at N.read N.WIDTH b.now at K }
 {
-    b[at] = (x % 256) as u8;
-    b[at + 1] = (x / 256) as u8;
-}
-
-pub fn put32(b: &mut [u8], at: usize, x: u32)
-    requires { at + 4 ≤ length b.old }
-    ensures { Put b.old b.new (le32_bytes x) at (at + 4) }
-{
-    put16(b, at, (x % 65536) as u16);
-    put16(b, at + 2, (x / 65536) as u16);
-}
-
-pub fn put8s(b: &mut [u8], at: usize, a: &[u8])
-    requires { at + length a.now ≤ length b.old }
-    ensures { Put b.old b.new (joined le8_bytes a.now) at (at + length a.now) }
-{
-    let mut i: usize = 0;
-    while i < a.len() {
-        wire::put_u8(b, at + i, a[i]);
-        i += 1;
+    let mut all = [N::default(); K];
+    for (i, x) in all.iter_mut().enumerate() {
+        *x = N::get(b, at + N::WIDTH * i);
     }
+    all
 }
 
-pub fn put16s(b: &mut [u8], at: usize, a: &[u16])
-    requires { at + 2 * length a.now ≤ length b.old }
-    ensures { Put b.old b.new (joined le16_bytes a.now) at (at + 2 * length a.now) }
+pub fn put_all<N: Number>(b: &mut Block, at: usize, all: &[N])
+    requires { at + N.WIDTH * length all.now ≤ block_bytes }
+    ensures { Put b.old b.new (joined N.bytes all.now) at (at + N.WIDTH * length all.now) }
 {
-    let mut i: usize = 0;
-    while i < a.len() {
-        put16(b, at + 2 * i, a[i]);
-        i += 1;
+    for (i, x) in all.iter().enumerate() {
+        x.put(b, at + N::WIDTH * i);
     }
-}
-
-pub fn put32s(b: &mut [u8], at: usize, a: &[u32])
-    requires { at + 4 * length a.now ≤ length b.old }
-    ensures { Put b.old b.new (joined le32_bytes a.now) at (at + 4 * length a.now) }
-{
-    let mut i: usize = 0;
-    while i < a.len() {
-        put32(b, at + 4 * i, a[i]);
-        i += 1;
-    }
-}
-
-fn wide(x: u8) -> u16
-    ensures { (result ≡ x) × (result < 256) }
-{
-    x as u16
-}
-
-pub fn wider(x: u16) -> u32
-    ensures { (result ≡ x) × (result < 65536) }
-{
-    x as u32
-}
-
-pub fn size(x: u8) -> usize
-    ensures { (result ≡ x) × (result < 256) }
-{
-    x as usize
 }

@@ -1,5 +1,5 @@
-pub mod Ways
 pub mod Named
+pub mod AsRead
 pub mod Standing
 pub mod Fresh
 pub mod Refusals

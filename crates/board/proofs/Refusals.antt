@@ -6,25 +6,24 @@ use mathlib.Core.Path.{◌≡◌, refl}
 use native.Mathlib.Omega.{arith}
 use lib.Dec.{eqb, leb, ltb}
 use lib.ListN.{length}
-use Rattle.rules.specs.Calls.{done_flag, other_flag, soft_flag}
+use Rattle.rules.specs.Calls.{other_flag}
 use Rattle.rules.specs.File.{Reading, Writing, read, read_as, scan, unread, unwritten, write, written}
 use Rattle.rules.specs.Refusals.{not_image, number, unknown_flag}
 use Rattle.rules.specs.Station.{Station}
+use Rattle.std.specs.Prelude.{Option, Some, None, is_some, Result, Ok, Err}
+use Rattle.refusal.specs.declared.Refusal.{Refusal}
+use Rattle.refusal.specs.declared.Refusal.TheVariants.{BZero, DUnderB, QueueFull, RoomShort}
 use Rattle.table.specs.Answers.{scan_row}
 use Rattle.table.specs.Memory.{rows_of}
 use Rattle.state.specs.declared.Rows.{Rows}
 use Rattle.state.specs.declared.State.{State}
-use Rattle.dispatch.specs.declared.Ticked.{Ticked}
-use Rattle.dispatch.specs.Steps.{tick_in}
-use Rattle.offer.specs.declared.Offered.{Offered}
-use Rattle.offer.specs.declared.Offered.TheVariants.{Refused, Ticket}
-use Rattle.offer.specs.declared.OfferMade.{OfferMade}
 use Rattle.offer.specs.Steps.{claims_of, offer_made, refused_by, ticket_for, unrun_of}
 use Rattle.block.specs.Places.{block_bytes}
 use Rattle.block.specs.Tests.{decoded_as, decoded_of}
+use Rattle.block.specs.declared.Decoded.{Decoded}
 use Rattle.block.proofs.Results.{block_promises}
-use Rattle.board.specs.Blocks.{giving, made_on, offer_block, offered_on, plan_block, planned_on, table_block, tick_block, tick_decoded, ticked_on, writing_on}
-use Rattle.board.specs.Numbers.{refused_offer, refused_plan, refused_table, refused_tick}
+use Rattle.board.specs.Blocks.{giving, made_on, offer_block, offer_decoded, offered_on, plan_block, planned_on, table_block, table_decoded, tick_block, tick_decoded, writing_on}
+use Rattle.board.specs.Numbers.{refused_plan, refused_tick}
 use Rattle.board.specs.Promises.{TickNumbers, Untouched}
 use Rattle.board.proofs.Standing.{StandsFor}
 
@@ -40,47 +39,40 @@ plan_refused b file = go (eqb (length b) block_bytes) (read file)
     go true (unread why from size) h = refl
     go false R h = refl
 
-module _ (b : List ℕ) (set flags : ℕ) where
-  abbrev stepped : Ticked
-  stepped = tick_in (decoded_of b).rows (decoded_of b).state set (done_flag flags) (soft_flag flags)
+tick_refused : (b : List ℕ) (set flags : ℕ) → ((tick_block b set flags).answer.refusal ≡ 0 → ⊥) → (tick_block b set flags).block ≡ b
+unfolding tick_block
+tick_refused b set flags = go (other_flag flags) (decoded_of b)
+  where
+    go : (f : Bool) (x : Option Decoded)
+        → ((cond f (giving (refused_tick (number unknown_flag)) b) (tick_decoded x b set flags)).answer.refusal ≡ 0 → ⊥)
+        → (cond f (giving (refused_tick (number unknown_flag)) b) (tick_decoded x b set flags)).block ≡ b
+    go true x h = refl
+    go false (Some x) h = absurd (h refl)
+    go false None h = refl
 
-  tick_refused : ((tick_block b set flags).answer.refusal ≡ 0 → ⊥) → (tick_block b set flags).block ≡ b
-  unfolding tick_block
-  tick_refused = go (other_flag flags) (decoded_of b).ok
-    where
-      go : (f ok : Bool)
-          → ((cond f (giving (refused_tick (number unknown_flag)) b) (cond ok (ticked_on stepped b) (giving (refused_tick (number not_image)) b))).answer.refusal ≡ 0 → ⊥)
-          → (cond f (giving (refused_tick (number unknown_flag)) b) (cond ok (ticked_on stepped b) (giving (refused_tick (number not_image)) b))).block ≡ b
-      go true ok h = refl
-      go false true h = absurd (h refl)
-      go false false h = refl
+offered_refused : (o : Result ℕ Refusal) (s : State) (b : List ℕ) → ((offered_on o s b).answer.refusal ≡ 0 → ⊥) → (offered_on o s b).block ≡ b
+offered_refused (Ok t) s b h = absurd (h refl)
+offered_refused (Err why) s b h = refl
 
-offered_refused : (o : Offered) (s : State) (b : List ℕ) → ((offered_on o s b).answer.refusal ≡ 0 → ⊥) → (offered_on o s b).block ≡ b
-offered_refused (Ticket t) s b h = absurd (h refl)
-offered_refused (Refused n) s b h = refl
-
-module _ (b : List ℕ) (B d : ℕ) where
-  abbrev made : OfferMade
-  made = offer_made (decoded_of b).rows (decoded_of b).state B d
-
-  offer_refused : ((offer_block b B d).answer.refusal ≡ 0 → ⊥) → (offer_block b B d).block ≡ b
-  unfolding offer_block
-  offer_refused = go (decoded_of b).ok
-    where
-      go : (ok : Bool) → ((cond ok (made_on made b) (giving (refused_offer (number not_image)) b)).answer.refusal ≡ 0 → ⊥)
-          → (cond ok (made_on made b) (giving (refused_offer (number not_image)) b)).block ≡ b
-      go true h = offered_refused made.offered made.state b h
-      go false h = refl
+offer_refused : (b : List ℕ) (B d : ℕ) → ((offer_block b B d).answer.refusal ≡ 0 → ⊥) → (offer_block b B d).block ≡ b
+unfolding offer_block
+offer_refused b B d = go (decoded_of b)
+  where
+    go : (x : Option Decoded) → ((offer_decoded x b B d).answer.refusal ≡ 0 → ⊥) → (offer_decoded x b B d).block ≡ b
+    go (Some x) h = let made = offer_made x.rows x.state B d in offered_refused made.offered made.state b h
+    go None h = refl
 
 table_refused : (b out : List ℕ) → ((table_block b out).answer.refusal ≡ 0 → ⊥) → (table_block b out).block ≡ out
 unfolding table_block
-table_refused b out = go (decoded_of b).ok (write (rows_of (decoded_of b).rows.table) out)
+table_refused b out = go (decoded_of b)
   where
-    go : (ok : Bool) (w : Writing) → ((cond ok (writing_on w out) (giving (refused_table (number not_image)) out)).answer.refusal ≡ 0 → ⊥)
-        → (cond ok (writing_on w out) (giving (refused_table (number not_image)) out)).block ≡ out
-    go true (written size after) h = absurd (h refl)
-    go true (unwritten why) h = refl
-    go false w h = refl
+    written_refused : (w : Writing) → ((writing_on w out).answer.refusal ≡ 0 → ⊥) → (writing_on w out).block ≡ out
+    written_refused (written size after) h = absurd (h refl)
+    written_refused (unwritten why) h = refl
+
+    go : (x : Option Decoded) → ((table_decoded x out).answer.refusal ≡ 0 → ⊥) → (table_decoded x out).block ≡ out
+    go (Some x) h = written_refused (write (rows_of x.rows.table) out) h
+    go None h = refl
 
 pub untouched : Untouched
 untouched = record { plan_refused = plan_refused; tick_refused = tick_refused; offer_refused = offer_refused; table_refused = table_refused }
@@ -89,14 +81,14 @@ untouched = record { plan_refused = plan_refused; tick_refused = tick_refused; o
 
 pub tick_numbers_lem : TickNumbers
 unfolding tick_block
-tick_numbers_lem b set flags = go (other_flag flags) (decoded_of b).ok
+tick_numbers_lem b set flags = go (other_flag flags) (decoded_of b)
   where
-    go : (f ok : Bool)
-        → (cond f (giving (refused_tick (number unknown_flag)) b) (cond ok (ticked_on (stepped b set flags) b) (giving (refused_tick (number not_image)) b))).answer.refusal
-        ≡ cond f (number unknown_flag) (cond ok 0 (number not_image))
-    go true ok = refl
-    go false true = refl
-    go false false = refl
+    go : (f : Bool) (x : Option Decoded)
+        → (cond f (giving (refused_tick (number unknown_flag)) b) (tick_decoded x b set flags)).answer.refusal
+        ≡ cond f (number unknown_flag) (cond (is_some x) 0 (number not_image))
+    go true x = refl
+    go false (Some x) = refl
+    go false None = refl
 
 -- a block that holds a state is not refused with 11
 
@@ -105,7 +97,7 @@ unfolding offer_made
 offered_not_11 rows s B d b = go (eqb B 0) (ltb d B) (leb 8 s.count) (leb (claims_of rows s d + (B + unrun_of s)) d)
   where
     go : (x y z w : Bool)
-        → (made_on (cond x (refused_by 15 s) (cond y (refused_by 16 s) (cond z (refused_by 17 s) (cond w (ticket_for s B) (refused_by 18 s))))) b).answer.refusal ≡ 11 → ⊥
+        → (made_on (cond x (refused_by BZero s) (cond y (refused_by DUnderB s) (cond z (refused_by QueueFull s) (cond w (ticket_for s B) (refused_by RoomShort s))))) b).answer.refusal ≡ 11 → ⊥
     go true y z w e = omega arith
     go false true z w e = omega arith
     go false false true w e = omega arith

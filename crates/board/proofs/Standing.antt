@@ -5,6 +5,7 @@ use mathlib.Core.List.{List, [], ◌∷◌}
 use mathlib.Core.Option.{some}
 use mathlib.Core.Path.{◌≡◌, refl, sym, ap, ap₂, subst}
 use borrow.Author.Tests.{eq-eqb}
+use native.Mathlib.Omega.{arith}
 use lib.ListN.{length}
 use Rattle.rules.specs.Calls.{AllShort, Call, Short, after, after_offer, after_tick, answered, as_ticked, done_flag, no_tick, offer_call, other_flag, replies, soft_flag, step, tick_call}
 use Rattle.rules.specs.Image.{is_image}
@@ -17,20 +18,21 @@ use Rattle.state.specs.declared.Rows.{Rows}
 use Rattle.state.specs.declared.State.{State}
 use Rattle.state.specs.Meaning.{Stored, station_of}
 use Rattle.answer.specs.Below.{AnswerBelow}
-use Rattle.dispatch.specs.declared.Ticked.{Ticked}
 use Rattle.dispatch.specs.Refines.{TickRefines}
-use Rattle.dispatch.specs.Steps.{tick_in}
+use Rattle.dispatch.specs.Steps.{Ticked, tick_in}
 use Rattle.dispatch.proofs.NamedRows.{answer_below}
 use Rattle.dispatch.proofs.Refine.{tick_refines}
-use Rattle.offer.specs.declared.OfferMade.{OfferMade}
 use Rattle.offer.specs.Answers.{OfferIs}
-use Rattle.offer.specs.Steps.{offer_made}
+use Rattle.offer.specs.Steps.{OfferMade, offer_made}
 use Rattle.offer.proofs.Refine.{offer_refines}
+use Rattle.refusal.proofs.Numbered.{numbered}
 use Rattle.block.specs.Image.{Imaged}
 use Rattle.block.specs.Layout.{image_of, written_on}
 use Rattle.block.specs.Places.{block_bytes}
 use Rattle.block.proofs.Results.{block_promises}
+use Rattle.std.specs.Prelude.{Option, Some, None, is_some}
 use Rattle.block.specs.Tests.{decoded_as, decoded_of}
+use Rattle.block.specs.declared.Decoded.{Decoded}
 use Rattle.board.specs.declared.OfferAnswer.{OfferAnswer}
 use Rattle.board.specs.declared.TickAnswer.{TickAnswer}
 use Rattle.board.specs.Blocks.{Out, giving, made_on, offer_block, offer_decoded, tick_block, tick_decoded, ticked_on}
@@ -114,7 +116,7 @@ module _ (rows : Rows) (s : State) (I : Imaged rows s) where
   made_stands : (O : Offered) (r : OfferMade) → OfferIs rows s r O
       → (offer_reply (made_on r b).answer ≡ some (after_offer st O).reply) × StandsFor (made_on r b).block (after_offer st O).station
   made_stands (accepted st' t) r (v, e, S') = rw v (refl, stepped_stands r.state st' e S')
-  made_stands (no_offer why) r (v, e) = rw (v, (named_back why).0, (named_back why).1) (refl, same)
+  made_stands (no_offer why) r (v, e) = rw (v, numbered why, (named_back why).0, (named_back why).1) (refl, same)
 
   offer_on : (B d : ℕ) → offer_block b B d ≡ made_on (offer_made rows s B d) b
   unfolding offer_block
@@ -144,12 +146,14 @@ after_stands [] b station h H = H
 after_stands (c ∷ cs) b station (h, hs) H = after_stands cs (block_on b c) (step station c).station hs (step_stands b station c h H).1
 
 -- any bytes that decode accepts hold a station of document 01's conditions
-pub accepted_stands : (b : List ℕ) → Bytes b → (decoded_of b).ok ≡ true → (station : Station) × (is_image station ≡ true) × StandsFor b station
-accepted_stands b bytes ok =
-    let x = decoded_of b in
-    let decoded : x ≡ decoded_as x.rows x.state = λ i. record { ok = ok i; rows = x.rows; state = x.state } in
-    let (is, imaged) = block_promises.decode_only b bytes x.rows x.state decoded in (
-      station_of x.rows x.state,
-      imaged.stored.image,
-      record { rows = x.rows; state = x.state; imaged = imaged; block_is = sym is; station_is = refl },
-    )
+pub accepted_stands : (b : List ℕ) → Bytes b → is_some (decoded_of b) ≡ true → (station : Station) × (is_image station ≡ true) × StandsFor b station
+accepted_stands b bytes ok = go (decoded_of b) refl ok
+  where
+    go : (x : Option Decoded) → decoded_of b ≡ x → is_some x ≡ true → (station : Station) × (is_image station ≡ true) × StandsFor b station
+    go None decoded ok = absurd (let z : ◌≡◌ {A = ℕ} 0 1 = cc in omega arith)
+    go (Some x) decoded ok =
+        let (is, imaged) = block_promises.decode_only b bytes x.rows x.state decoded in (
+          station_of x.rows x.state,
+          imaged.stored.image,
+          record { rows = x.rows; state = x.state; imaged = imaged; block_is = sym is; station_is = refl },
+        )

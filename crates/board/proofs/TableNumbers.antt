@@ -4,7 +4,7 @@ use mathlib.Core.Bool.{Bool, true, false, cond}
 use mathlib.Core.List.{List, [], ◌∷◌, ◌++◌}
 use mathlib.Core.Logic.{◌⊎◌, inl, inr}
 use mathlib.Core.Option.{none}
-use mathlib.Core.Path.{◌≡◌, refl, ap}
+use mathlib.Core.Path.{◌≡◌, refl, ap, ◌∙◌}
 use borrow.Author.Tests.{le-ltb}
 use lib.Dec.{ltb}
 use lib.ListN.{drop, length}
@@ -14,7 +14,10 @@ use Rattle.rules.specs.Refusals.{R_M_over_D, at_row, number, passes_d, small_out
 use Rattle.rules.specs.Rows.{Row, table_fault}
 use Rattle.rules.specs.Tables.{Bytes}
 use Rattle.rules.proofs.ImageIs.{image_iff}
+use Rattle.std.specs.Prelude.{Option, Some, None, is_some}
+use Rattle.refusal.proofs.Numbered.{numbered}
 use Rattle.block.specs.Tests.{decoded_of}
+use Rattle.block.specs.declared.Decoded.{Decoded}
 use Rattle.board.specs.Blocks.{table_block, writing_on}
 use Rattle.board.specs.Promises.{TableNumber, TableNumbers}
 use Rattle.board.proofs.Standing.{accepted_stands}
@@ -48,14 +51,14 @@ put_number bytes out = go (ltb (length out) (length bytes))
 
 plan_number : (p : Plan) → ByBounds p → (bytes out : List ℕ) → TableNumber (writing_on (write_plan p bytes out) out).answer.refusal
 plan_number (planned ps) h bytes out = put_number bytes out
-plan_number (unplanned x) (inl h) bytes out = inr (inl (ap number h))
-plan_number (unplanned x) (inr h) bytes out = inr (inr (inl (ap number h)))
+plan_number (unplanned x) (inl h) bytes out = inr (inl (numbered x.why ∙ ap number h))
+plan_number (unplanned x) (inr h) bytes out = inr (inr (inl (numbered x.why ∙ ap number h)))
 
 write_number : (rs : List Row) → length rs ≤ 16 → table_fault rs ≡ none → (out : List ℕ) → TableNumber (writing_on (write rs out) out).answer.refusal
 unfolding write plan
 write_number rs few no_fault out = rw (le-ltb 16 (length rs) few, no_fault) (plan_number (plan_rows [] 0 rs) (by_rows [] 0 rs) (file_bytes rs) out)
 
-image_number : (b out : List ℕ) → Bytes b → (decoded_of b).ok ≡ true → TableNumber (table_block b out).answer.refusal
+image_number : (b out : List ℕ) → Bytes b → is_some (decoded_of b) ≡ true → TableNumber (table_block b out).answer.refusal
 image_number b out bytes ok =
     let (st, image, H) = accepted_stands b bytes ok in
     let T = ((image_iff st).0 image).table in
@@ -63,8 +66,8 @@ image_number b out bytes ok =
 
 pub table_numbers : TableNumbers
 unfolding table_block
-table_numbers b out bytes = go (decoded_of b).ok refl
+table_numbers b out bytes = go (decoded_of b) refl
   where
-    go : (ok : Bool) → (decoded_of b).ok ≡ ok → TableNumber (table_block b out).answer.refusal
-    go true e = image_number b out bytes e
-    go false e = rw e (inr (inr (inr (inl refl))))
+    go : (x : Option Decoded) → decoded_of b ≡ x → TableNumber (table_block b out).answer.refusal
+    go (Some x) e = image_number b out bytes (rw e refl)
+    go None e = rw e (inr (inr (inr (inl refl))))

@@ -1,18 +1,16 @@
 -- The exported functions on byte lists: the block is decoded, the step is taken, its state is written back, or its table to an output; a refusal leaves all as it was. Assumes nothing.
-use Rattle.std.specs.Prelude.{ℕ, cond, List, eqb, length}
+use Rattle.std.specs.Prelude.{ℕ, cond, List, eqb, length, Option, Some, None, unwrap_or, Result, Ok, Err}
 use Rattle.rules.specs.Calls.{done_flag, other_flag, soft_flag}
 use Rattle.rules.specs.File.{Reading, Writing, read, read_as, scan, unread, write}
 use Rattle.rules.specs.Refusals.{not_image, number, unknown_flag}
+use Rattle.refusal.specs.Refusals.{number_of}
+use Rattle.refusal.specs.declared.Refusal.{Refusal}
 use Rattle.table.specs.Answers.{output_after, scan_row, written_of}
 use Rattle.table.specs.Memory.{rows_of}
 use Rattle.state.specs.Fresh.{rows_for, fresh_in}
 use Rattle.state.specs.declared.State.{State}
-use Rattle.dispatch.specs.Steps.{tick_in}
-use Rattle.dispatch.specs.declared.Ticked.{Ticked}
-use Rattle.offer.specs.Steps.{offer_made}
-use Rattle.offer.specs.declared.Offered.{Offered}
-use Rattle.offer.specs.declared.Offered.TheVariants.{Refused, Ticket}
-use Rattle.offer.specs.declared.OfferMade.{OfferMade}
+use Rattle.dispatch.specs.Steps.{Ticked, tick_in}
+use Rattle.offer.specs.Steps.{OfferMade, offer_made}
 use Rattle.block.specs.Layout.{image_of, written_on}
 use Rattle.block.specs.Places.{block_bytes}
 use Rattle.block.specs.Tests.{decoded_of}
@@ -35,9 +33,9 @@ giving a b = record { answer = a; block = b }
 -- planning: 11 for the length only, then the file
 
 -- an accepted file leaves the image of its fresh state; row: the one that a refusal is about
-abbrev pub planned_on : List ℕ → ℕ → Reading → Out PlanAnswer
+abbrev pub planned_on : List ℕ → Option ℕ → Reading → Out PlanAnswer
 planned_on b row (read_as ps) = giving done_plan (image_of (rows_for ps) (fresh_in (rows_for ps).table.n))
-planned_on b row (unread why from size) = giving (refused_plan (number why) row from size) b
+planned_on b row (unread why from size) = giving (refused_plan (number why) (unwrap_or row 0) from size) b
 
 -- the whole of planning
 unfoldable pub plan_block : List ℕ → List ℕ → Out PlanAnswer
@@ -50,9 +48,9 @@ abbrev pub ticked_on : Ticked → List ℕ → Out TickAnswer
 ticked_on r b = giving (stepped_tick r.answer) (written_on b r.state)
 
 -- a block that is no image is refused 11
-abbrev pub tick_decoded : Decoded → List ℕ → ℕ → ℕ → Out TickAnswer
-tick_decoded x b set flags =
-    cond x.ok (ticked_on (tick_in x.rows x.state set (done_flag flags) (soft_flag flags)) b) (giving (refused_tick (number not_image)) b)
+abbrev pub tick_decoded : Option Decoded → List ℕ → ℕ → ℕ → Out TickAnswer
+tick_decoded (Some x) b set flags = ticked_on (tick_in x.rows x.state set (done_flag flags) (soft_flag flags)) b
+tick_decoded None b set flags = giving (refused_tick (number not_image)) b
 
 -- the whole tick: the flags first
 unfoldable pub tick_block : List ℕ → ℕ → ℕ → Out TickAnswer
@@ -61,17 +59,18 @@ tick_block b set flags = cond (other_flag flags) (giving (refused_tick (number u
 -- the offer: 11, then 15, 16, 17, 18
 
 -- an accepted offer leaves the state after it
-abbrev pub offered_on : Offered → State → List ℕ → Out OfferAnswer
-offered_on (Ticket t) s b = giving (taken_offer t) (written_on b s)
-offered_on (Refused n) s b = giving (refused_offer n) b
+abbrev pub offered_on : Result ℕ Refusal → State → List ℕ → Out OfferAnswer
+offered_on (Ok t) s b = giving (taken_offer t) (written_on b s)
+offered_on (Err why) s b = giving (refused_offer (number_of why)) b
 
 -- the same of what the dispatcher gives
 abbrev pub made_on : OfferMade → List ℕ → Out OfferAnswer
 made_on r b = offered_on r.offered r.state b
 
 -- a block that is no image is refused 11
-abbrev pub offer_decoded : Decoded → List ℕ → ℕ → ℕ → Out OfferAnswer
-offer_decoded x b B d = cond x.ok (made_on (offer_made x.rows x.state B d) b) (giving (refused_offer (number not_image)) b)
+abbrev pub offer_decoded : Option Decoded → List ℕ → ℕ → ℕ → Out OfferAnswer
+offer_decoded (Some x) b B d = made_on (offer_made x.rows x.state B d) b
+offer_decoded None b B d = giving (refused_offer (number not_image)) b
 
 -- the whole offer
 unfoldable pub offer_block : List ℕ → ℕ → ℕ → Out OfferAnswer
@@ -84,8 +83,9 @@ abbrev pub writing_on : Writing → List ℕ → Out TableAnswer
 writing_on w out = giving (written_table (written_of w)) (output_after out w)
 
 -- a block that is no image is refused 11
-abbrev pub table_decoded : Decoded → List ℕ → Out TableAnswer
-table_decoded x out = cond x.ok (writing_on (write (rows_of x.rows.table) out) out) (giving (refused_table (number not_image)) out)
+abbrev pub table_decoded : Option Decoded → List ℕ → Out TableAnswer
+table_decoded (Some x) out = writing_on (write (rows_of x.rows.table) out) out
+table_decoded None out = giving (refused_table (number not_image)) out
 
 -- the whole of it
 unfoldable pub table_block : List ℕ → List ℕ → Out TableAnswer

@@ -1,7 +1,7 @@
 -- The answers to C in numbers, field by field. Rows are counted from 1 here; 0 stands where a number says nothing. Assumes nothing.
-use Rattle.std.specs.Prelude.{ℕ}
-use Rattle.table.specs.declared.Written.{Written}
-use Rattle.table.specs.declared.Written.TheVariants.{Length, Refused}
+use Rattle.std.specs.Prelude.{ℕ, Result, Ok, Err}
+use Rattle.refusal.specs.Refusals.{number_of}
+use Rattle.refusal.specs.declared.Refusal.{Refusal}
 use Rattle.answer.specs.Numbers.{closing_numbers, flag_number, runner_numbers}
 use Rattle.answer.specs.declared.Answer.{Answer}
 use Rattle.answer.specs.declared.ClosingNumbers.{ClosingNumbers}
@@ -80,7 +80,7 @@ done_plan = record { from = 0; size = 0; refusal = 0; row = 0 }
 abbrev pub refused_table : ℕ → TableAnswer
 refused_table refusal = record { size = 0; refusal = refusal }
 
--- how many bytes were written, or the number
-abbrev pub written_table : Written → TableAnswer
-written_table (Length size) = record { size = size; refusal = 0 }
-written_table (Refused refusal) = refused_table refusal
+-- how many bytes were written, or why none
+abbrev pub written_table : Result ℕ Refusal → TableAnswer
+written_table (Ok size) = record { size = size; refusal = 0 }
+written_table (Err why) = refused_table (number_of why)

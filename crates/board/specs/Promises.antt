@@ -1,6 +1,6 @@
 -- What a kernel may rely on, over blocks: calls on the block that planning left, each given the block that the last one left. Assumes nothing.
 -- A block is a list of bytes, and everything is counted from the answers of the exported functions (specs/Blocks.antt).
-use Rattle.std.specs.Prelude.{ℕ, ◌%◌, ◌^◌, ◌≤◌, ◌<◌, true, false, cond, not, ◌&&◌, List, [], ◌∷◌, ◌++◌, map, ◌⊎◌, ◌≡◌, leb, drop, length, take}
+use Rattle.std.specs.Prelude.{ℕ, ◌%◌, ◌^◌, ◌≤◌, ◌<◌, true, false, cond, not, ◌&&◌, List, [], ◌∷◌, ◌++◌, map, ◌⊎◌, ◌≡◌, leb, drop, length, take, is_some}
 use Rattle.std.proofs.Math.Option.{Option, none, some}
 use Rattle.std.proofs.Math.ListN.{get_elem?}
 use Rattle.rules.specs.Bound.{PlannedRow, unplanned}
@@ -57,7 +57,7 @@ pub record Untouched : Type 0 where
 -- DEMAND 2, of any bytes that decode accepts: they are a state of document 01's conditions, the replies are those of its dispatcher, and a
 -- tick notes and does what `noted` says of it
 abbrev pub AnyBlock : Type 0
-AnyBlock = (b : List ℕ) → Bytes b → (decoded_of b).ok ≡ true
+AnyBlock = (b : List ℕ) → Bytes b → is_some (decoded_of b) ≡ true
     → (st : Station) × (is_image st ≡ true) × ((cs : List Call) → AllShort cs → block_replies b cs ≡ replies st cs)
     × ((set flags : ℕ) (x : Answer) → Short (tick_call set flags) → reply_on b (tick_call set flags) ≡ some (answered x)
     → NotesAre st set (done_flag flags) (soft_flag flags) (record { station = (step st (tick_call set flags)).station; answer = x }))
@@ -65,7 +65,7 @@ AnyBlock = (b : List ℕ) → Bytes b → (decoded_of b).ok ≡ true
 -- THE TICK, of any bytes: 20 by the flags alone, then 11 where decode refuses the bytes; nothing else refuses one
 abbrev pub TickNumbers : Type 0
 TickNumbers = (b : List ℕ) (set flags : ℕ)
-    → (tick_block b set flags).answer.refusal ≡ cond (other_flag flags) (number unknown_flag) (cond (decoded_of b).ok 0 (number not_image))
+    → (tick_block b set flags).answer.refusal ≡ cond (other_flag flags) (number unknown_flag) (cond (is_some (decoded_of b)) 0 (number not_image))
 
 -- accepted, or refused with 10, 22, 11 or 19
 abbrev pub TableNumber : ℕ → Type 0

@@ -1,19 +1,21 @@
 // What a C kernel calls: planning, the tick, the upload offer and the table read back, on numbers and a lent block of 512 bytes.
 #![tactic(auto)]
 
-ghost use Rattle.std.specs.Prelude.{◌≡◌};
+ghost use Rattle.std.specs.Prelude.{◌≡◌, unwrap_or};
 ghost use Rattle.rules.specs.Calls.{done_flag, soft_flag};
+ghost use Rattle.refusal.specs.Refusals.{number_of};
 ghost use Rattle.answer.specs.Below.{AnswerBelow};
-ghost use Rattle.board.specs.Numbers.{refused_plan, refused_tick, stepped_tick};
+ghost use Rattle.board.specs.Numbers.{refused_offer, refused_plan, refused_table, refused_tick, stepped_tick};
 ghost use Rattle.board.specs.Blocks.{plan_block, tick_block, offer_block, table_block};
 
 use answer::Answer;
-use offer::Offered;
-use table::{FileRefusal, FileVerdict, Written};
+use refusal::Refusal;
+use table::{FileRefusal, PlannedTable};
+use wire::Part;
 
 // refusal: 0, or the documents' number. row: of 6 to 10, 21 and 22, else 0. from, size: the shown part of the table file, of 1 to 10, 21 and 22, else 0.
 #[repr(C)]
-#[derive(Drop)]
+#[derive(Default, Drop)]
 pub struct PlanAnswer {
     pub from: usize,
     pub size: usize,
@@ -25,7 +27,7 @@ pub struct PlanAnswer {
 // runner: 1 hard, with its row and band (1 upper, 2 lower), 2 firm, with its ticket, 3 soft, 4 idle.
 // closed: 0 nothing, 1 hard, with its row, 2 firm, with its ticket; closing: 1 done, 2 spent. A refusal has 0 in every other field.
 #[repr(C)]
-#[derive(Drop)]
+#[derive(Default, Drop)]
 pub struct TickAnswer {
     pub clock: u32,
     pub ticket: u32,
@@ -44,7 +46,7 @@ pub struct TickAnswer {
 
 // refusal: 0, or document 01's number, and then ticket is 0.
 #[repr(C)]
-#[derive(Drop)]
+#[derive(Default, Drop)]
 pub struct OfferAnswer {
     pub ticket: u32,
     pub refusal: u8,
@@ -52,7 +54,7 @@ pub struct OfferAnswer {
 
 // refusal: 0, or document 01's number, and then size is 0.
 #[repr(C)]
-#[derive(Drop)]
+#[derive(Default, Drop)]
 pub struct TableAnswer {
     pub size: usize,
     pub refusal: u8,
@@ -60,119 +62,123 @@ pub struct TableAnswer {
 
 // Plans the table of a file into a fresh block: 11 for its length only, then 1 to 10, 21 and 22. A refusal writes nothing.
 #[unsafe(no_mangle)]
+#[tactic(auto, unfolding(crate::specs::Blocks::plan_block))]
 pub extern "C" fn heechstjer_plan(block: &mut [u8], table: &[u8]) -> PlanAnswer
     ensures value { result ≡ (plan_block block.old table.now).answer }
     ensures block_after { block.new ≡ (plan_block block.old table.now).block }
 {
     if block.len() != block::BLOCK_BYTES {
         return refused_plan(FileRefusal {
-            number: 11,
-            row: 0,
-            from: 0,
-            size: 0,
+            why: Refusal::NotImage,
+            row: None,
+            part: Part { from: 0, size: 0 },
         });
     }
-    let reading = table::read_table(table);
-    let verdict = reading.verdict;
-    match verdict {
-        FileVerdict::Refused(refusal) => refused_plan(refusal),
-        FileVerdict::Accepted => {
-            let tb = reading.table;
-            let plan = reading.plan;
-            let state = state::fresh_state(tb.n);
-            block::encode(state::planned_rows(tb, plan), state, block);
-            PlanAnswer {
-                from: 0,
-                size: 0,
-                refusal: 0,
-                row: 0,
-            }
+    match table::read_table(table) {
+        Err(refusal) => refused_plan(refusal),
+        Ok(PlannedTable { table, plan }) => {
+            let fresh = state::fresh_state(table.n);
+            block::encode(state::planned_rows(table, plan), fresh, block);
+            PlanAnswer::default()
         }
     }
 }
 
 // One tick: 20, 11; 12, 13 and 14 are noted in the answer. A refusal leaves the block as it was.
 #[unsafe(no_mangle)]
+#[tactic(auto, unfolding(crate::specs::Blocks::tick_block))]
 pub extern "C" fn heechstjer_tick(block: &mut [u8], set: u16, flags: u8) -> TickAnswer
     ensures value { result ≡ (tick_block block.old set flags).answer }
     ensures block_after { block.new ≡ (tick_block block.old set flags).block }
 {
     if 4 <= flags {
-        return refused_tick(20);
+        return refused_tick(Refusal::UnknownFlag);
     }
-    let decoded = block::decode(block);
-    if decoded.ok {
-        let rows = decoded.rows;
-        let state = decoded.state;
-        let ticked = dispatch::tick(rows, state, set, done_flag(flags), soft_flag(flags));
-        let answer = ticked.answer;
-        let next = ticked.state;
-        block::write_state(next, block);
-        stepped_tick(answer)
-    } else {
-        refused_tick(11)
-    }
+    let Some(decoded) = block::decode(block) else {
+        return refused_tick(Refusal::NotImage);
+    };
+    let mut stepped = decoded.state;
+    let answer = dispatch::tick(
+        &decoded.rows,
+        &mut stepped,
+        set,
+        done_flag(flags),
+        soft_flag(flags),
+    );
+    block::write_state(stepped, block);
+    stepped_tick(answer)
 }
 
 // One offer: 11, 15, 16, 17, 18. A refusal leaves the block as it was.
 #[unsafe(no_mangle)]
+#[tactic(auto, unfolding(crate::specs::Blocks::offer_block))]
 pub extern "C" fn heechstjer_offer(block: &mut [u8], budget: u16, deadline: u16) -> OfferAnswer
     ensures value { result ≡ (offer_block block.old budget deadline).answer }
     ensures block_after { block.new ≡ (offer_block block.old budget deadline).block }
 {
-    let decoded = block::decode(block);
-    if decoded.ok {
-        let rows = decoded.rows;
-        let state = decoded.state;
-        let made = offer::offer(rows, state, budget, deadline);
-        let offered = made.offered;
-        let Offered::Ticket(ticket) = offered else {
-            return OfferAnswer {
-                ticket: 0,
-                refusal: offer::offer_number(offered),
-            };
-        };
-        let next = made.state;
-        block::write_state(next, block);
-        OfferAnswer { ticket, refusal: 0 }
-    } else {
-        OfferAnswer {
-            ticket: 0,
-            refusal: 11,
-        }
-    }
+    let Some(decoded) = block::decode(block) else {
+        return refused_offer(Refusal::NotImage);
+    };
+    let mut queued = decoded.state;
+    let offered = offer::offer(&decoded.rows, &mut queued, budget, deadline);
+    let Ok(ticket) = offered else {
+        return refused_offer(offered.unwrap_err());
+    };
+    block::write_state(queued, block);
+    OfferAnswer { ticket, refusal: 0 }
 }
 
 // Writes the table of a block as its file to the front of out: 11, then 5 to 10 and 22, then 19. A refusal writes nothing.
 #[unsafe(no_mangle)]
+#[tactic(auto, unfolding(crate::specs::Blocks::table_block))]
 pub extern "C" fn heechstjer_table(block: &[u8], out: &mut [u8]) -> TableAnswer
     ensures value { result ≡ (table_block block.now out.old).answer }
     ensures out_after { out.new ≡ (table_block block.now out.old).block }
 {
-    let decoded = block::decode(block);
-    if decoded.ok {
-        let rows = decoded.rows;
-        let tb = rows.table;
-        match table::write_table(tb, out) {
-            Written::Length(size) => TableAnswer { size, refusal: 0 },
-            Written::Refused(refusal) => TableAnswer { size: 0, refusal },
-        }
-    } else {
-        TableAnswer {
-            size: 0,
-            refusal: 11,
-        }
+    let Some(decoded) = block::decode(block) else {
+        return refused_table(Refusal::NotImage);
+    };
+    match table::write_table(decoded.rows.table, out) {
+        Err(why) => refused_table(why),
+        Ok(size) => TableAnswer { size, refusal: 0 },
     }
 }
 
 fn refused_plan(refusal: FileRefusal) -> PlanAnswer
-    ensures { result ≡ refused_plan refusal.number refusal.row refusal.from refusal.size }
+    ensures { result ≡ refused_plan (number_of refusal.why) (unwrap_or refusal.row 0) refusal.part.from refusal.part.size }
 {
     PlanAnswer {
-        from: refusal.from,
-        size: refusal.size,
-        refusal: refusal.number,
-        row: refusal.row,
+        from: refusal.part.from,
+        size: refusal.part.size,
+        refusal: refusal.why.number(),
+        row: refusal.row.unwrap_or(0),
+    }
+}
+
+fn refused_tick(why: Refusal) -> TickAnswer
+    ensures { result ≡ refused_tick (number_of why) }
+{
+    TickAnswer {
+        refusal: why.number(),
+        ..TickAnswer::default()
+    }
+}
+
+fn refused_offer(why: Refusal) -> OfferAnswer
+    ensures { result ≡ refused_offer (number_of why) }
+{
+    OfferAnswer {
+        ticket: 0,
+        refusal: why.number(),
+    }
+}
+
+fn refused_table(why: Refusal) -> TableAnswer
+    ensures { result ≡ refused_table (number_of why) }
+{
+    TableAnswer {
+        size: 0,
+        refusal: why.number(),
     }
 }
 
@@ -188,35 +194,13 @@ fn soft_flag(flags: u8) -> bool
     flags / 2 % 2 == 1
 }
 
-fn refused_tick(refusal: u8) -> TickAnswer
-    ensures { result ≡ refused_tick refusal }
-{
-    TickAnswer {
-        clock: 0,
-        ticket: 0,
-        closed_ticket: 0,
-        unknown: 0,
-        not_ready: 0,
-        refusal,
-        none_ran: 0,
-        runner: 0,
-        runner_row: 0,
-        band: 0,
-        closed: 0,
-        closed_row: 0,
-        closing: 0,
-    }
-}
-
 fn stepped_tick(answer: Answer) -> TickAnswer
     requires { AnswerBelow answer }
     ensures { result ≡ stepped_tick answer }
 {
-    let runner = answer.runner;
-    let closing = answer.closing;
+    let runs = answer::runner_numbers(answer.runner);
+    let closes = answer::closing_numbers(answer.closing);
     let notes = answer.notes;
-    let runs = answer::runner_numbers(runner);
-    let closes = answer::closing_numbers(closing);
     TickAnswer {
         clock: answer.clock,
         ticket: runs.ticket,
@@ -224,7 +208,7 @@ fn stepped_tick(answer: Answer) -> TickAnswer
         unknown: notes.unknown,
         not_ready: notes.not_ready,
         refusal: 0,
-        none_ran: answer::flag_number(notes.none_ran),
+        none_ran: u8::from(notes.none_ran),
         runner: runs.kind,
         runner_row: runs.row,
         band: runs.band,

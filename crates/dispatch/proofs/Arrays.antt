@@ -1,5 +1,6 @@
 -- The arrays after a step, entry by entry, and the sets, row by row: at every position, inside the array or past it. Assumes nothing.
 use Rattle.std.proofs.Common.{◌≡◌, ℕ, zero, suc, ◌^◌, ◌<◌, ◌≤◌, Bool, true, false, cond, not, ◌&&◌, ◌||◌, eqb, List, [], ◌∷◌, length, get_or, set, sym, refl, ap, le_of_suc-le-suc, not-suc-le-zero, arith, get_or-set_other, get_or-set_same, eq-eqb, ne_eqb, eqb-true}
+use Rattle.std.proofs.Math.Bool.{or-false}
 use native.Mathlib.Decide.{dec_lt}
 use lib.Bits.{bit_and}
 use lib.ListN.{get_or-eq_default}
@@ -9,7 +10,6 @@ use Rattle.rules.proofs.Bools.{and_no, and_yes}
 use Rattle.state.specs.Meaning.{entry}
 use Rattle.state.specs.Sets.{others}
 use Rattle.state.proofs.Bits.{bit_of_and, bit_one, bit_of_or, bit_others, bit_past, bit_zero}
-use Rattle.state.proofs.Bools.{or_no}
 use Rattle.dispatch.specs.Loops.{marked, rows_that, upto}
 use Rattle.dispatch.specs.Steps.{shifted}
 use Rattle.dispatch.proofs.Loops.{that_lt}
@@ -81,5 +81,5 @@ bit_that p zero i h = absurd (not-suc-le-zero h)
 bit_that p (suc k) i h = rw (bit_of_or (rows_that p k) (cond (p k) (2 ^ k) 0) i, bit_mark (p k) k i) (go (dec_lt i k) (bit_that p k i))
   where
     go : Dec (i < k) → (i < k → bit (rows_that p k) i ≡ p i) → (bit (rows_that p k) i || (p k && eqb i k)) ≡ p i
-    go (yes l) ih = rw (ih l, ne_eqb i k (λ z. omega arith), and_no (p k)) (or_no (p i))
+    go (yes l) ih = rw (ih l, ne_eqb i k (λ z. omega arith), and_no (p k)) (or-false (p i))
     go (no l) ih = let e : i ≡ k = omega arith in rw (bit_past k (rows_that p k) i (that_lt p k) (omega arith), eq-eqb i k e, and_yes (p k)) (ap p (sym e))

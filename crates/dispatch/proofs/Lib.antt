@@ -1,5 +1,6 @@
 pub mod Loops
 pub mod Arrays
+pub mod Lowest
 pub mod RefineClose
 pub mod RefineRelease
 pub mod RefineChoose

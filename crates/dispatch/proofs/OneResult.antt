@@ -6,5 +6,5 @@ use Rattle.state.specs.declared.Rows.{Rows}
 use Rattle.state.specs.declared.State.{State}
 use Rattle.dispatch.specs.Steps.{tick_in}
 
-pub tick_lem : (rows : Rows) (s : State) (set : ℕ) (done soft : Bool) → One (tick_in rows s set done soft)
-tick_lem rows s set done soft = one_result
+pub tick_lem : (rows : Rows) (s : State) (set : ℕ) (done soft : Bool) → One (tick_in rows s set done soft).answer × One (tick_in rows s set done soft).state
+tick_lem rows s set done soft = (one_result, one_result)

@@ -29,9 +29,8 @@ use Rattle.state.proofs.Widths.{U_le, image_of_lem, positive, row_good, thin}
 use Rattle.state.proofs.Bools.{leb_ltb}
 use Rattle.answer.specs.Answers.{answer_of, runner_of}
 use Rattle.answer.specs.Answers as answers
-use Rattle.dispatch.specs.declared.Ticked.{Ticked}
 use Rattle.dispatch.specs.Refines.{TickRefines}
-use Rattle.dispatch.specs.Steps.{advanced, asked_in, closed_by, closing_in, notes_in, ran_in, ready_in, released_by, stepped_in, tick_in, unready_in}
+use Rattle.dispatch.specs.Steps.{Ticked, advanced, asked_in, closed_by, closing_in, notes_in, ran_in, ready_in, released_by, stepped_in, tick_in, unready_in}
 use Rattle.dispatch.proofs.Arrays.{bit_minus}
 use Rattle.dispatch.proofs.RefineChoose.{choose_refines}
 use Rattle.dispatch.proofs.RefineClose.{close_refines, first_others}

@@ -1,5 +1,9 @@
 -- Step 1 in memory is step 1 of the rules: what closes, and the state after it. Assumes nothing.
 use Rattle.std.proofs.Common.{◌≡◌, ℕ, zero, suc, ◌-◌, ◌^◌, ◌<◌, ◌≤◌, Bool, true, false, cond, not, ◌&&◌, eqb, ltb, leb, List, ◌∷◌, length, set, sym, refl, ◌∙◌, true≢false, lt_of_le_of_lt, arith, length-set, ltb-true, lt-ltb, eq-eqb}
+use Rattle.std.proofs.Math.Bool.{or-false}
+use Rattle.std.specs.Prelude.{Some}
+use Rattle.std.specs.Bool.{then_some}
+use Rattle.std.specs.Option.{option_map_or}
 use mathlib.Core.Option.{some}
 use lib.Bits.{bit_and, and_le_l}
 use lib.Pow.{pow-lt}
@@ -19,11 +23,12 @@ use Rattle.state.proofs.Agrees.{Agrees}
 use Rattle.state.proofs.Bits.{bit_one}
 use Rattle.state.proofs.Positions.{any_rows, each_rows, first_row, holds_rows, shift_rows}
 use Rattle.state.proofs.Widths.{image_of_lem}
-use Rattle.state.proofs.Bools.{leb_ltb, or_no}
 use Rattle.answer.specs.declared.Closing.{Closing}
-use Rattle.answer.specs.declared.Closing.TheVariants.{Nothing, HardDone, HardSpent, FirmDone, FirmSpent}
+use Rattle.answer.specs.declared.Closing.TheVariants as closing
+use Rattle.answer.specs.declared.Closing.TheVariants.{Nothing, Hard}
+use Rattle.answer.specs.declared.How.TheVariants.{Done, Spent}
 use Rattle.answer.specs.Answers.{closing_of}
-use Rattle.dispatch.specs.Steps.{closed_by, closing_in, popped, shut_row}
+use Rattle.dispatch.specs.Steps.{closed_by, closes_in, closing_in, popped, shut_row}
 use Rattle.dispatch.proofs.Arrays.{bit_minus, set_at, shift_at}
 
 -- a hard job closes
@@ -104,7 +109,7 @@ pub first_others : (next : ℕ) (f : Firm) (fs : List Firm) → next < 2 ^ 32 �
 first_others next f fs l h (e, T) = behind f.ticket (suc (length fs)) next l h e fs (omega arith) T
 
 full_first : (f : Firm) (fs : List Firm) → All (Other f.ticket) fs → full_of f.ticket (f ∷ fs) ≡ leb f.budget f.run
-full_first f fs o = rw (eq-eqb f.ticket f.ticket refl, others_not_full f.ticket 1 fs o) (or_no (leb f.budget f.run))
+full_first f fs o = rw (eq-eqb f.ticket f.ticket refl, others_not_full f.ticket 1 fs o) (or-false (leb f.budget f.run))
 
 without_first : (f : Firm) (fs : List Firm) → All (Other f.ticket) fs → without f.ticket (f ∷ fs) ≡ fs
 without_first f fs o = rw (eq-eqb f.ticket f.ticket refl) (without_others f.ticket fs o)
@@ -134,10 +139,10 @@ module _ (rows : Rows) (s : State) (S : Stored rows s) where
       let e = shut_slots rows s S.kept s.last h in
       rw (lt-ltb s.last 16 h) (record { clock_is = refl; slots_is = rw (lt-ltb s.last 16 h) at e; firms_is = refl; next_is = refl })
 
-  row_closes : s.last < 16 → (d b : Bool) → Closes rows s (cond d (HardDone s.last) (cond b Nothing (HardSpent s.last))) (close_row st s.last (closes_as d (not b)))
+  row_closes : s.last < 16 → (d b : Bool) → Closes rows s (option_map_or (Hard s.last) (cond d (Some Done) (then_some b Spent)) Nothing) (close_row st s.last (closes_as d b))
   row_closes h true b = (refl, shut_agrees done h, shut_kept rows s S.kept s.last h)
-  row_closes h false true = (refl, as_is, S.kept)
-  row_closes h false false = (refl, shut_agrees spent h, shut_kept rows s S.kept s.last h)
+  row_closes h false true = (refl, shut_agrees spent h, shut_kept rows s S.kept s.last h)
+  row_closes h false false = (refl, as_is, S.kept)
 
   has_run : ltb s.last 16 ≡ true → Holds HasRun s.last 0 (slots_of rows s)
   unfolding station_of
@@ -147,11 +152,11 @@ module _ (rows : Rows) (s : State) (S : Stored rows s) where
   open_job true r q e = refl
   open_job false r q e = let z : ◌≡◌ {A = ℕ} 0 1 = cc in absurd (omega arith)
 
-  row_full : ltb s.last 16 ≡ true → full_at s.last (slots_of rows s) ≡ not (ltb (entry s.run s.last) (entry rows.table.c s.last))
+  row_full : ltb s.last 16 ≡ true → full_at s.last (slots_of rows s) ≡ leb (entry rows.table.c s.last) (entry s.run s.last)
   row_full e =
       let (l, (r, q)) = holds_rows HasRun (slot_at rows s) s.last 0 rows.table.n (has_run e) in
       any_rows (λ x. fully_run x.row.C x.job) (slot_at rows s) s.last 0 rows.table.n (omega arith) l
-      ∙ rw (open_job (bit s.«open» s.last) (entry s.run s.last) (suc r) q) (leb_ltb (entry rows.table.c s.last) (entry s.run s.last))
+      ∙ rw (open_job (bit s.«open» s.last) (entry s.run s.last) (suc r) q)
 
   -- the first firm job
 
@@ -168,8 +173,8 @@ module _ (rows : Rows) (s : State) (S : Stored rows s) where
         let T = I.tickets in
         first_others s.next first (rows_from (firm_at s) 1 k) T.next_lt (rw queue_is at T.few) (rw queue_is at T.to_next)
 
-    firm_full : full_of first.ticket (firms_of s) ≡ not (ltb (entry s.used 0) (entry s.budget 0))
-    firm_full = rw queue_is (full_first first (rows_from (firm_at s) 1 k) others_are) ∙ leb_ltb (entry s.budget 0) (entry s.used 0)
+    firm_full : full_of first.ticket (firms_of s) ≡ leb (entry s.budget 0) (entry s.used 0)
+    firm_full = rw queue_is (full_first first (rows_from (firm_at s) 1 k) others_are)
 
     pop_agrees : (how : How) → Agrees rows (popped s) (close_firm st first.ticket (some how)).station
     unfolding station_of
@@ -183,10 +188,10 @@ module _ (rows : Rows) (s : State) (S : Stored rows s) where
     }
 
     firm_closes : (d b : Bool)
-        → Closes rows s (cond d (FirmDone first.ticket) (cond b Nothing (FirmSpent first.ticket))) (close_firm st first.ticket (closes_as d (not b)))
+        → Closes rows s (option_map_or (closing.Firm first.ticket) (cond d (Some Done) (then_some b Spent)) Nothing) (close_firm st first.ticket (closes_as d b))
     firm_closes true b = (refl, pop_agrees done, pop_kept rows s S.kept)
-    firm_closes false true = (refl, as_is, S.kept)
-    firm_closes false false = (refl, pop_agrees spent, pop_kept rows s S.kept)
+    firm_closes false true = (refl, pop_agrees spent, pop_kept rows s S.kept)
+    firm_closes false false = (refl, as_is, S.kept)
 
   queued : (k : ℕ) → s.count ≡ k → FirstIs (firm_of first.ticket) (firms_of s) → (m : ℕ) × (s.count ≡ suc m)
   unfolding rows_from
@@ -198,20 +203,18 @@ module _ (rows : Rows) (s : State) (S : Stored rows s) where
   close_refines d = row (ltb s.last 16) refl
     where
       firm : (b : Bool) → ltb s.last 16 ≡ false → eqb s.last 16 ≡ b
-          → Closes rows s (cond b (cond d (FirmDone first.ticket) (cond (ltb (entry s.used 0) (entry s.budget 0)) Nothing (FirmSpent first.ticket))) Nothing)
+          → Closes rows s (cond b (option_map_or (closing.Firm first.ticket) (closes_in d (entry s.used 0) (entry s.budget 0)) Nothing) Nothing)
           (close_last st d (cond b (firm_of first.ticket) nobody))
       firm true e q =
           let (k, c) = queued s.count refl (rw (e, q) at I.tickets.first) in
-          rw (firm_full k c) (firm_closes k c d (ltb (entry s.used 0) (entry s.budget 0)))
+          rw (firm_full k c) (firm_closes k c d (leb (entry s.budget 0) (entry s.used 0)))
       firm false e q = (refl, as_is, S.kept)
 
       row : (b : Bool) → ltb s.last 16 ≡ b
           → Closes rows s
           (cond b
-          (cond d (HardDone s.last) (cond (ltb (entry s.run s.last) (entry rows.table.c s.last)) Nothing (HardSpent s.last)))
-          (cond (eqb s.last 16)
-          (cond d (FirmDone first.ticket) (cond (ltb (entry s.used 0) (entry s.budget 0)) Nothing (FirmSpent first.ticket)))
-          Nothing))
+          (option_map_or (Hard s.last) (closes_in d (entry s.run s.last) (entry rows.table.c s.last)) Nothing)
+          (cond (eqb s.last 16) (option_map_or (closing.Firm first.ticket) (closes_in d (entry s.used 0) (entry s.budget 0)) Nothing) Nothing))
           (close_last st d (cond b (row_at s.last) (cond (eqb s.last 16) (firm_of first.ticket) nobody)))
-      row true e = rw (row_full e) (row_closes (ltb-true s.last 16 e) d (ltb (entry s.run s.last) (entry rows.table.c s.last)))
+      row true e = rw (row_full e) (row_closes (ltb-true s.last 16 e) d (leb (entry rows.table.c s.last) (entry s.run s.last)))
       row false e = firm (eqb s.last 16) e refl

@@ -1,5 +1,6 @@
 -- Step 2 in memory is step 2 of the rules. Assumes nothing.
 use Rattle.std.proofs.Common.{◌≡◌, ℕ, ◌^◌, ◌<◌, ◌≤◌, Bool, true, false, cond, not, ◌&&◌, ◌||◌, sym, refl, ◌∙◌, true≢false, lt_of_le_of_lt, arith}
+use Rattle.std.proofs.Math.Bool.{or-false}
 use mathlib.Core.Bool.{false≢true}
 use lib.Bits.{bit_and, and_le_l, or_lt}
 use Rattle.rules.specs.Station.{closed, hold, opened}
@@ -12,7 +13,6 @@ use Rattle.state.specs.Meaning.{Kept, entry, slot_at, slots_of, wrapped}
 use Rattle.state.specs.Sets.{others}
 use Rattle.state.proofs.Bits.{bit_of_or}
 use Rattle.state.proofs.Positions.{each_rows}
-use Rattle.state.proofs.Bools.{or_no}
 use Rattle.dispatch.specs.Loops.{marked, upto}
 use Rattle.dispatch.specs.Steps.{released_by}
 use Rattle.dispatch.proofs.Arrays.{bit_minus, length_upto, stamped_at}
@@ -40,7 +40,7 @@ module _ (rows : Rows) (s : State) (K : Kept rows s) (set : ℕ) (small : set < 
             job = cond (bit s.«open» j || b) (opened (entry s.run j)) closed;
           } ≡ cond b (released (slot_at rows s j)) (slot_at rows s j)
       go true e = rw (and_no (bit s.rested j), age_now s.clock K.times.clock_lt, ready j h e, K.jobs.run_blank j (ready j h e))
-      go false e = rw (and_yes (bit s.rested j), or_no (bit s.«open» j))
+      go false e = rw (and_yes (bit s.rested j), or-false (bit s.«open» j))
 
   pub release_refines : slots_of rows (released_by s set) ≡ release (bit set) (slots_of rows s)
   release_refines = each_rows (λ k x. cond (bit set k) (released x) x) (slot_at rows s) (slot_at rows (released_by s set)) 0 rows.table.n (λ j h. slot_is j (omega arith))

@@ -1,7 +1,9 @@
 -- What the loops over sixteen rows compute: sets of rows, folds, and arrays changed in place. Assumes nothing.
-use Rattle.std.specs.Prelude.{ℕ, zero, suc, ◌^◌, Bool, cond, List, [], ◌∷◌, bit_or, nat_le, nat_lt}
+use Rattle.std.specs.Prelude.{ℕ, zero, suc, ◌^◌, Bool, cond, List, [], ◌∷◌, Option, None, Some, bit_or, nat_le, nat_lt}
+use Rattle.std.specs.Bool.{then_some}
 use Rattle.rules.specs.Tick.{bit}
 use Rattle.state.specs.Meaning.{entry, wrapped}
+use Rattle.state.specs.Sets.{least}
 use Rattle.dispatch.specs.declared.sets.Best.{Best}
 
 -- the rows below k that pass the test
@@ -28,14 +30,15 @@ marked set v i x = cond (bit set i) v x
 abbrev pub aged_at : List ℕ → List ℕ → ℕ → ℕ → Bool
 aged_at ticks stamp clock i = nat_le (entry ticks i) (wrapped clock (entry stamp i))
 
--- no row yet: a rank above all
-abbrev pub no_best : Best
-no_best = record { rank = 256; row = 16 }
+-- the lowest row of the set
+abbrev pub lowest_in : ℕ → Option ℕ
+lowest_in set = then_some (nat_lt (least set) 16) (least set)
 
 -- the better of the row and the best so far
-abbrev pub better : ℕ → ℕ → Best → Best
-better rank i best = cond (nat_lt rank best.rank) (record { rank = rank; row = i }) best
+abbrev pub better : ℕ → ℕ → Option Best → Option Best
+better rank i None = Some (record { rank = rank; row = i })
+better rank i (Some best) = Some (cond (nat_lt rank best.rank) (record { rank = rank; row = i }) best)
 
 -- the row at i, if it is in the set
-abbrev pub low_at : List ℕ → ℕ → ℕ → Best → Best
+abbrev pub low_at : List ℕ → ℕ → ℕ → Option Best → Option Best
 low_at rank set i best = cond (bit set i) (better (entry rank i) i best) best

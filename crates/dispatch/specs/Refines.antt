@@ -4,7 +4,7 @@ use Rattle.rules.specs.Tick as rules
 use Rattle.state.specs.declared.Rows.{Rows}
 use Rattle.state.specs.Meaning.{Stored, station_of}
 use Rattle.answer.specs.Answers.{answer_of}
-use Rattle.dispatch.specs.declared.Ticked.{Ticked}
+use Rattle.dispatch.specs.Steps.{Ticked}
 
 -- the answer, and a state that is again the rules' station and may be stored
 abbrev pub TickRefines : Rows → rules.Outcome → Ticked → Type 0

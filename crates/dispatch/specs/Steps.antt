@@ -1,18 +1,22 @@
 -- What the steps of the tick compute on the arrays, close to the code. Assumes nothing.
-use Rattle.std.specs.Prelude.{ℕ, ◌+◌, ◌-◌, ◌%◌, ◌^◌, Bool, cond, ◌&&◌, List, [], ◌∷◌, set, ◌==◌, bit_and, bit_or, nat_lt}
+use Rattle.std.specs.Prelude.{ℕ, ◌+◌, ◌-◌, ◌%◌, ◌^◌, Bool, cond, ◌&&◌, List, [], ◌∷◌, Option, None, Some, set, slice_index_or, ◌==◌, bit_and, bit_or, nat_le, nat_lt}
+use Rattle.std.specs.Bool.{then_some}
+use Rattle.std.specs.Option.{option_map_or}
 use Rattle.state.specs.declared.Rows.{Rows}
 use Rattle.state.specs.declared.State.{State}
 use Rattle.state.specs.Meaning.{entry}
 use Rattle.state.specs.Sets.{known, least, others}
+use Rattle.answer.specs.declared.Answer.{Answer}
 use Rattle.answer.specs.declared.Band.TheVariants.{Upper, Lower}
 use Rattle.answer.specs.declared.Closing.{Closing}
-use Rattle.answer.specs.declared.Closing.TheVariants.{Nothing, HardDone, HardSpent, FirmDone, FirmSpent}
+use Rattle.answer.specs.declared.Closing.TheVariants.{Nothing, Hard, Firm}
+use Rattle.answer.specs.declared.How.{How}
+use Rattle.answer.specs.declared.How.TheVariants.{Done, Spent}
 use Rattle.answer.specs.declared.Notes.{Notes}
 use Rattle.answer.specs.declared.Runner.{Runner}
 use Rattle.answer.specs.declared.Runner.TheVariants.{Hard, Firm, Soft, Idle}
-use Rattle.dispatch.specs.declared.Ticked.{Ticked}
 use Rattle.dispatch.specs.declared.sets.Best.{Best}
-use Rattle.dispatch.specs.Loops.{aged_at, fold_rows, low_at, marked, no_best, rows_that, upto}
+use Rattle.dispatch.specs.Loops.{aged_at, fold_rows, low_at, marked, rows_that, upto}
 
 -- the state with these in place of its clock, open rows, rested rows and stamps
 abbrev pub retimed : State → ℕ → ℕ → ℕ → List ℕ → State
@@ -48,13 +52,17 @@ reworked s o last run count budget used ticket = record {
 
 -- 1. Close
 
--- what closes: the last runner, as done with the flag, else as spent if it is fully run
+-- how a job closes, if it does: as done with the flag, else as spent if it is fully run
+abbrev pub closes_in : Bool → ℕ → ℕ → Option How
+closes_in d run ticks = cond d (Some Done) (then_some (nat_le ticks run) Spent)
+
+-- what closes: the job of the last runner
 abbrev pub closing_in : Rows → State → Bool → Closing
 closing_in rows s d =
     cond (nat_lt s.last 16)
-    (cond d (HardDone s.last) (cond (nat_lt (entry s.run s.last) (entry rows.table.c s.last)) Nothing (HardSpent s.last)))
+    (option_map_or (Hard s.last) (closes_in d (entry s.run s.last) (entry rows.table.c s.last)) Nothing)
     (cond (s.last == 16)
-    (cond d (FirmDone (entry s.ticket 0)) (cond (nat_lt (entry s.used 0) (entry s.budget 0)) Nothing (FirmSpent (entry s.ticket 0))))
+    (option_map_or (Firm (entry s.ticket 0)) (closes_in d (entry s.used 0) (entry s.budget 0)) Nothing)
     Nothing)
 
 -- the row at i without its job
@@ -62,9 +70,14 @@ abbrev pub shut_row : State → ℕ → State
 shut_row s i =
     cond (nat_lt i 16) (reworked s (bit_and s.«open» (others (2 ^ i))) s.last (set s.run i 0) s.count s.budget s.used s.ticket) s
 
--- an array of eight without its first element
+-- an array of eight without its first element, and d at its end
+abbrev pub shifted_in : {A : Type 0} → A → List A → List A
+shifted_in d a =
+    slice_index_or a 1 d ∷ slice_index_or a 2 d ∷ slice_index_or a 3 d ∷ slice_index_or a 4 d ∷ slice_index_or a 5 d ∷ slice_index_or a 6 d ∷ slice_index_or a 7 d ∷ d ∷ []
+
+-- an array of eight numbers without its first
 abbrev pub shifted : List ℕ → List ℕ
-shifted a = entry a 1 ∷ entry a 2 ∷ entry a 3 ∷ entry a 4 ∷ entry a 5 ∷ entry a 6 ∷ entry a 7 ∷ 0 ∷ []
+shifted a = shifted_in 0 a
 
 -- the queue without its first job
 abbrev pub popped : State → State
@@ -73,10 +86,8 @@ popped s = reworked s s.«open» s.last s.run (s.count - 1) (shifted s.budget) (
 -- the state after that closing
 abbrev pub closed_by : State → Closing → State
 closed_by s Nothing = s
-closed_by s (HardDone i) = shut_row s i
-closed_by s (HardSpent i) = shut_row s i
-closed_by s (FirmDone t) = popped s
-closed_by s (FirmSpent t) = popped s
+closed_by s (Hard i how) = shut_row s i
+closed_by s (Firm t how) = popped s
 
 -- 2. Release
 
@@ -91,8 +102,9 @@ abbrev pub promoted_rows : Rows → State → ℕ
 promoted_rows rows s = bit_and s.«open» (bit_or s.rested (rows_that (aged_at rows.u s.stamp s.clock) 16))
 
 -- the best of the open rows, or idle
-abbrev pub lower_of : Best → Runner
-lower_of best = cond (nat_lt best.rank 256) (Hard best.row Lower) Idle
+abbrev pub lower_of : Option Best → Runner
+lower_of None = Idle
+lower_of (Some best) = Hard best.row Lower
 
 -- the first that exists
 abbrev pub chosen_in : Rows → State → Bool → Runner
@@ -100,7 +112,7 @@ chosen_in rows s soft =
     let upper = least (promoted_rows rows s) in
     cond (nat_lt upper 16) (Hard upper Upper)
     (cond (nat_lt 0 s.count) (Firm (entry s.ticket 0))
-    (cond soft Soft (lower_of (fold_rows (low_at rows.table.rank s.«open») 0 16 no_best))))
+    (cond soft Soft (lower_of (fold_rows (low_at rows.table.rank s.«open») 0 16 None))))
 
 -- 4. Run
 
@@ -140,6 +152,11 @@ abbrev pub advanced : Rows → State → State
 advanced rows s = retimed s (next_clock s) s.«open» (rested_next rows s) (upto (marked (rested_next rows s) 0) 16 s.stamp)
 
 -- the tick
+
+-- the answer to a tick, and the state after it
+pub record Ticked : Type 0 where
+  pub answer : Answer
+  pub state : State
 
 -- the rows of a set that are there
 abbrev pub asked_in : Rows → ℕ → ℕ

@@ -10,19 +10,15 @@ ghost use Rattle.dispatch.specs.Steps.{tick_in};
 use answer::{Answer, Notes};
 use state::{Rows, State};
 
-// The answer to a tick, and the state after it.
-#[derive(Drop)]
-pub struct Ticked {
-    pub answer: Answer,
-    pub state: State,
-}
-
 // One tick: close, release, choose, run. The release bits of rows above n, and of rows that are not ready once the last job is closed, are noted and not released.
-pub fn tick(rows: Rows, s: State, set: u16, done: bool, soft: bool) -> Ticked
-    ensures { result ≡ tick_in rows s set done soft }
+// The steps take a state and give the next: docs/performance.md says why.
+#[tactic(auto, unfolding(crate::specs::Steps::tick_in, crate::specs::Steps::stepped_in))]
+pub fn tick(rows: &Rows, s: &mut State, set: u16, done: bool, soft: bool) -> Answer
+    ensures value { result ≡ (tick_in rows.now s.old set done soft).answer }
+    ensures state_after { s.new ≡ (tick_in rows.now s.old set done soft).state }
 {
     let closing = steps::closing_of(rows, s, done);
-    let closed = steps::close(s, closing);
+    let closed = steps::close(*s, closing);
     let known = state::known_rows(rows.table.n);
     let asked = set & known;
     let unready = closed.open | !closed.rested;
@@ -31,5 +27,14 @@ pub fn tick(rows: Rows, s: State, set: u16, done: bool, soft: bool) -> Ticked
         none_ran: done & (16 < s.last),
         not_ready: asked & unready,
     };
-    steps::stepped(rows, closed, asked & !unready, soft, closing, notes)
+    let released = steps::release(closed, asked & !unready);
+    let runner = steps::choose(rows, &released, soft);
+    let ran = steps::run(released, runner);
+    *s = steps::advance(rows, ran);
+    Answer {
+        clock: closed.clock,
+        runner,
+        closing,
+        notes,
+    }
 }

@@ -1,140 +1,116 @@
 // The steps of a tick: 1 close, 2 release, 3 choose, 4 run and advance.
 ghost use Rattle.std.specs.Prelude.{◌≡◌};
-ghost use Rattle.dispatch.specs.Steps.{advanced, bumped, chosen_in, closed_by, closing_in, ran_first, ran_in, ran_none, ran_row, released_by, shifted, shut_row, popped, promoted_rows, stepped_in};
+ghost use Rattle.dispatch.specs.Steps.{advanced, chosen_in, closed_by, closes_in, closing_in, popped, promoted_rows, ran_first, ran_in, ran_none, ran_row, released_by, shifted_in, shut_row};
 
-use crate::{Ticked, sets};
-use answer::{Answer, Band, Closing, Notes, Runner};
+use crate::sets;
+use answer::{Band, Closing, How, Runner};
 use state::{Rows, State};
 
-// How the last runner closes, if it does.
-pub fn closing_of(rows: Rows, s: State, done: bool) -> Closing
-    ensures { result ≡ closing_in rows s done }
+// What closes: the job of the last runner, or nothing. Arrays are taken out of their struct before a row indexes them, here and where they are changed below: a struct that is indexed
+// by a variable can't stay in registers.
+pub fn closing_of(rows: &Rows, s: &State, done: bool) -> Closing
+    ensures { result ≡ closing_in rows.now s.now done }
 {
     let last = s.last;
     if last < 16 {
-        if done {
-            return Closing::HardDone(last);
-        }
         let run = s.run;
         let c = rows.table.c;
-        if run[last] < c[last] {
-            return Closing::Nothing;
-        }
-        return Closing::HardSpent(last);
+        return closes_as(done, run[last], c[last]).map_or(
+            Closing::Nothing,
+            |how| Closing::Hard(last, how),
+        );
     }
     if last == 16 {
-        if done {
-            return Closing::FirmDone(s.ticket[0]);
-        }
-        if s.used[0] < s.budget[0] {
-            return Closing::Nothing;
-        }
-        return Closing::FirmSpent(s.ticket[0]);
+        return closes_as(done, s.used[0], s.budget[0]).map_or(
+            Closing::Nothing,
+            |how| Closing::Firm(s.ticket[0], how),
+        );
     }
     Closing::Nothing
 }
 
+// How a job closes, if it does; ticks: its whole C or budget.
+fn closes_as(done: bool, run: u16, ticks: u16) -> Option<How>
+    ensures { result ≡ closes_in done run ticks }
+{
+    if done {
+        return Some(How::Done);
+    }
+    (ticks <= run).then_some(How::Spent)
+}
+
+// The state after that closing.
 pub fn close(s: State, closing: Closing) -> State
     ensures { result ≡ closed_by s closing }
 {
     match closing {
         Closing::Nothing => s,
-        Closing::HardDone(i) => shut_row(s, i),
-        Closing::HardSpent(i) => shut_row(s, i),
-        Closing::FirmDone(_) => pop(s),
-        Closing::FirmSpent(_) => pop(s),
+        Closing::Hard(row, _) => shut_row(s, row),
+        Closing::Firm(_, _) => pop(s),
     }
 }
 
-// The array is taken out to be changed, here as in ran_row: a struct that is indexed by a variable can't stay in registers.
+// The row without its job.
 fn shut_row(s: State, i: usize) -> State
     ensures { result ≡ shut_row s i }
 {
-    let mut r = s;
-    if i < 16 {
-        let mut run = s.run;
-        run[i] = 0;
-        r.run = run;
-        r.open = s.open & !sets::one(i);
+    if 16 <= i {
+        return s;
     }
-    r
+    let mut run = s.run;
+    run[i] = 0;
+    State {
+        open: s.open & !(1 << i),
+        run,
+        ..s
+    }
 }
 
 // The queue without its first job.
 fn pop(s: State) -> State
     ensures { result ≡ popped s }
 {
-    let ticket = s.ticket;
-    let budget = s.budget;
-    let used = s.used;
-    let tickets = shift32(ticket);
-    let budgets = shift16(budget);
-    let useds = shift16(used);
-    let mut r = s;
-    r.ticket = tickets;
-    r.budget = budgets;
-    r.used = useds;
-    if 0 < s.count {
-        r.count = s.count - 1;
+    State {
+        count: s.count.saturating_sub(1),
+        budget: shifted(s.budget, 0),
+        used: shifted(s.used, 0),
+        ticket: shifted(s.ticket, 0),
+        ..s
     }
-    r
 }
 
-fn shift16(a: [u16; 8]) -> [u16; 8]
-    ensures { result ≡ shifted a }
+// An array of eight without its first element, and one more at its end.
+fn shifted<T: Copy>(a: [T; 8], last: T) -> [T; 8]
+    ensures { result ≡ shifted_in last a }
 {
-    [a[1], a[2], a[3], a[4], a[5], a[6], a[7], 0]
+    [a[1], a[2], a[3], a[4], a[5], a[6], a[7], last]
 }
 
-fn shift32(a: [u32; 8]) -> [u32; 8]
-    ensures { result ≡ shifted a }
-{
-    [a[1], a[2], a[3], a[4], a[5], a[6], a[7], 0]
-}
-
-// Release, choose, run and advance, once the last job is closed.
-pub fn stepped(rows: Rows, s: State, set: u16, soft: bool, closing: Closing, notes: Notes) -> Ticked
-    ensures { result ≡ stepped_in rows s set soft closing notes }
-{
-    let released = release(s, set);
-    let runner = choose(rows, released, soft);
-    let ran = run(released, runner);
-    let state = advance(rows, ran);
-    let answer = Answer {
-        clock: s.clock,
-        runner,
-        closing,
-        notes,
-    };
-    Ticked { answer, state }
-}
-
-fn release(s: State, set: u16) -> State
+// Each row of the set has a job, stamped now.
+pub fn release(s: State, set: u16) -> State
     ensures { result ≡ released_by s set }
 {
-    let stamp = s.stamp;
-    let stamps = sets::stamped(stamp, set, s.clock);
-    let mut r = s;
-    r.stamp = stamps;
-    r.open = s.open | set;
-    r.rested = s.rested & !set;
-    r
+    State {
+        open: s.open | set,
+        rested: s.rested & !set,
+        stamp: sets::stamped(s.stamp, set, s.clock),
+        ..s
+    }
 }
 
-fn promoted_rows(rows: Rows, s: State) -> u16
-    ensures { result ≡ promoted_rows rows s }
+// The rows whose job is open, and which are rested or U ticks old.
+fn promoted_rows(rows: &Rows, s: &State) -> u16
+    ensures { result ≡ promoted_rows rows.now s.now }
 {
-    let u = rows.u;
-    let stamp = s.stamp;
-    s.open & (s.rested | sets::aged_rows(u, stamp, s.clock))
+    s.open & (s.rested | sets::aged_rows(rows.u, s.stamp, s.clock))
 }
 
-fn choose(rows: Rows, s: State, soft: bool) -> Runner
-    ensures { result ≡ chosen_in rows s soft }
+// Who runs: the lowest promoted row, the first firm job, soft, the open row of the lowest rank, or nobody.
+pub fn choose(rows: &Rows, s: &State, soft: bool) -> Runner
+    ensures { result ≡ chosen_in rows.now s.now soft }
 {
-    let upper = sets::lowest(promoted_rows(rows, s));
-    if upper < 16 {
-        return Runner::Hard(upper, Band::Upper);
+    if let Some(row) = sets::lowest(promoted_rows(rows, s)) {
+        return Runner::Hard(row, Band::Upper);
     }
     if 0 < s.count {
         return Runner::Firm(s.ticket[0]);
@@ -142,15 +118,14 @@ fn choose(rows: Rows, s: State, soft: bool) -> Runner
     if soft {
         return Runner::Soft;
     }
-    let rank = rows.table.rank;
-    let best = sets::lowest_rank(rank, s.open);
-    if best.rank < 256 {
-        return Runner::Hard(best.row, Band::Lower);
+    match sets::lowest_rank(rows.table.rank, s.open) {
+        Some(best) => Runner::Hard(best.row, Band::Lower),
+        None => Runner::Idle,
     }
-    Runner::Idle
 }
 
-fn run(s: State, runner: Runner) -> State
+// The runner's job ran for one tick. Soft and Idle in one arm take some 27 instructions more a tick.
+pub fn run(s: State, runner: Runner) -> State
     ensures { result ≡ ran_in s runner }
 {
     match runner {
@@ -164,54 +139,43 @@ fn run(s: State, runner: Runner) -> State
 fn ran_row(s: State, i: usize) -> State
     ensures { result ≡ ran_row s i }
 {
-    let mut r = s;
-    if i < 16 {
-        let mut run = s.run;
-        let x = run[i];
-        run[i] = bump(x);
-        r.run = run;
-        r.last = i;
+    if 16 <= i {
+        return s;
     }
-    r
+    let mut run = s.run;
+    run[i] = run[i].saturating_add(1);
+    State { last: i, run, ..s }
 }
 
 fn ran_first(s: State) -> State
     ensures { result ≡ ran_first s }
 {
-    let x = s.used[0];
-    let mut r = s;
-    r.used[0] = bump(x);
-    r.last = 16;
-    r
+    let mut used = s.used;
+    used[0] = used[0].saturating_add(1);
+    State {
+        last: 16,
+        used,
+        ..s
+    }
 }
 
 fn ran_none(s: State) -> State
     ensures { result ≡ ran_none s }
 {
-    let mut r = s;
-    r.last = 17;
-    r
-}
-
-// One more, up to 65535.
-fn bump(x: u16) -> u16
-    ensures { result ≡ bumped x }
-{
-    if x < 65535 { x + 1 } else { x }
+    State { last: 17, ..s }
 }
 
 // The clock advances by one, and the rows whose T has come are rested.
-fn advance(rows: Rows, s: State) -> State
-    ensures { result ≡ advanced rows s }
+pub fn advance(rows: &Rows, s: State) -> State
+    ensures { result ≡ advanced rows.now s }
 {
-    let clock = std::num::wrapping_add_u32(s.clock, 1);
-    let t = rows.table.t;
-    let stamp = s.stamp;
-    let rested = s.rested | sets::aged_rows(t, stamp, clock) & state::known_rows(rows.table.n);
-    let stamps = sets::stamped(stamp, rested, 0);
-    let mut r = s;
-    r.stamp = stamps;
-    r.rested = rested;
-    r.clock = clock;
-    r
+    let clock = s.clock.wrapping_add(1);
+    let rested = s.rested
+        | sets::aged_rows(rows.table.t, s.stamp, clock) & state::known_rows(rows.table.n);
+    State {
+        clock,
+        rested,
+        stamp: sets::stamped(s.stamp, rested, 0),
+        ..s
+    }
 }

@@ -11,10 +11,12 @@ use borrow.Author.Tests.{ltb-false}
 use Rattle.rules.specs.Lists.{unless}
 use Rattle.rules.specs.Refusals.{cut, unknown_flag, wrong_length}
 use Rattle.rules.specs.Fields.{BadField, byte, header, to_end, value_fault, word}
-use Rattle.rules.specs.Calls.{other_flag, tick_call, offer_call}
+use Rattle.rules.specs.Calls.{other_flag, tick_call}
 use Rattle.rules.specs.Events.{Event, bad_event, event, no_more, offer_event, offer_tag, read_event, tick_event, tick_tag}
 use Rattle.event.specs.Answers.{event_of}
-use Rattle.event.specs.declared.EventRead.{EventRead}
+use Rattle.event.specs.declared.BadEvent.{BadEvent}
+use Rattle.event.specs.declared.Event as event
+use Rattle.std.specs.Prelude.{Option, Some, None, Result, Ok, Err}
 
 -- a call's field has bytes, at most n
 abbrev Sized : ℕ → Event → Type 0
@@ -53,21 +55,20 @@ sized s = go (eqb (length s) 0) (ltb (length s) 3) (eqb (byte s 0) tick_tag) (eq
     go false false false true = value_sized s 7 (offer_event s) (eqb (word s 1) 4) (ltb (length s) 7) refl (λ l. (omega arith, l))
     go false false false false = tt
 
--- the place after the event at the place at, of n
-abbrev pub Ahead : ℕ → ℕ → EventRead → Type 0
-Ahead at n (EventRead.Tick set done soft next) = (at < next) × (next ≤ n)
-Ahead at n (EventRead.Offer budget deadline next) = (at < next) × (next ≤ n)
-Ahead at n EventRead.End = Unit {0}
-Ahead at n (EventRead.Refused number from size) = Unit {0}
+-- the place after an event lies ahead of the place at, and within n
+abbrev Ahead : ℕ → ℕ → Result (Option event.Event) BadEvent → Type 0
+Ahead at n (Ok (Some e)) = (at < e.next) × (e.next ≤ n)
+Ahead at n (Ok None) = Unit {0}
+Ahead at n (Err bad) = Unit {0}
 
 sized_ahead : (at n m : ℕ) (e : Event) → at + m ≤ n → Sized m e → Ahead at n (event_of at e)
-sized_ahead at n m (event (tick_call set flags) size) l (some_bytes, few) = (omega arith, omega arith)
-sized_ahead at n m (event (offer_call B d) size) l (some_bytes, few) = (omega arith, omega arith)
+sized_ahead at n m (event call size) l (some_bytes, few) = (omega arith, omega arith)
 sized_ahead at n m no_more l h = tt
 sized_ahead at n m (bad_event why size) l h = tt
 
--- an event that was read at a place within s, and found to be of one case
-pub ahead : (s : List ℕ) (at : ℕ) {read found : EventRead} → at ≤ length s → read ≡ event_of at (read_event (drop at s)) → read ≡ found → Ahead at (length s) found
-ahead s at l e is =
-    subst (Ahead at (length s)) (sym e ∙ is)
+-- the place after an event that was read at a place within s
+pub next_ahead : (s : List ℕ) (at : ℕ) {read : Result (Option event.Event) BadEvent} (e : event.Event) → at ≤ length s
+    → read ≡ event_of at (read_event (drop at s)) → read ≡ Ok (Some e) → (at < e.next) × (e.next ≤ length s)
+next_ahead s at e l reads is =
+    subst (Ahead at (length s)) (sym reads ∙ is)
     (sized_ahead at (length s) (length (drop at s)) (read_event (drop at s)) (omega (arith, length-drop at s)) (sized (drop at s)))

@@ -15,16 +15,13 @@ read_event_lem s at = one_result
 pub place_after_lem : (s : List ℕ) (at : ℕ) → One (place_after at (read_event (drop at s)))
 place_after_lem s at = one_result
 
-pub event_at_lem : (s : List ℕ) (at : ℕ) → One (event_of at (read_event (drop at s)))
-event_at_lem s at = one_result
-
 -- a reader is its bytes and its place
 
 pub reader_at_lem : (bytes : Bor (List ℕ)) (at : ℕ) → One (bytes) × One (at)
 reader_at_lem bytes at = (one_result, one_result)
 
-pub next_lem : (r : EventReader) → One (event_of r.at (read_event (drop r.at r.bytes.now)))
-next_lem r = one_result
+pub next_lem : (self : EventReader) → One (event_of self.at (read_event (drop self.at self.bytes.now)))
+next_lem self = one_result
 
-pub after_lem : (r : EventReader) → One r.bytes × One (place_after r.at (read_event (drop r.at r.bytes.now)))
-after_lem r = (one_result, one_result)
+pub after_lem : (self : EventReader) → One self.bytes × One (place_after self.at (read_event (drop self.at self.bytes.now)))
+after_lem self = (one_result, one_result)

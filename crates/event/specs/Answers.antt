@@ -1,19 +1,36 @@
--- What each answer of the code says in document 01's words: the number and the values of every case. Assumes nothing.
-use Rattle.std.specs.Prelude.{ℕ, ◌+◌}
-use Rattle.rules.specs.Refusals.{number}
-use Rattle.rules.specs.Calls.{tick_call, offer_call, done_flag, soft_flag}
-use Rattle.rules.specs.Events.{Event, event, no_more, bad_event}
-use Rattle.event.specs.declared.EventRead.{EventRead}
+-- What each answer of the code says in document 01's words: every case, with its values. Assumes nothing.
+use Rattle.std.specs.Prelude.{ℕ, ◌+◌, Option, Some, None, Result, Ok, Err}
+use Rattle.rules.specs.Calls as rules
+use Rattle.rules.specs.Calls.{done_flag, soft_flag, offer_call, tick_call}
+use Rattle.rules.specs.Events as events
+use Rattle.rules.specs.Events.{bad_event, event, no_more}
+use Rattle.refusal.specs.Refusals.{refusal_of}
+use Rattle.refusal.specs.declared.Refusal.{Refusal}
+use Rattle.event.specs.declared.BadEvent.{BadEvent}
+use Rattle.event.specs.declared.Call.{Call}
+use Rattle.event.specs.declared.Event.{Event}
 
--- what stands at the place at: the call, and the place after its field; the end; or the number, and the part that is shown
-abbrev pub event_of : ℕ → Event → EventRead
-event_of at (event (tick_call set flags) size) = EventRead.Tick set (done_flag flags) (soft_flag flags) (at + size)
-event_of at (event (offer_call B d) size) = EventRead.Offer B d (at + size)
-event_of at no_more = EventRead.End
-event_of at (bad_event why size) = EventRead.Refused (number why) at size
+-- a call: a tick with its flags one by one, or an offer
+abbrev pub call_of : rules.Call → Call
+call_of (tick_call set flags) = Call.Tick set (done_flag flags) (soft_flag flags)
+call_of (offer_call B d) = Call.Offer B d
+
+-- a call at the place at, and the place after its field
+abbrev pub event_at : ℕ → rules.Call → ℕ → Event
+event_at at call size = record { call = call_of call; next = at + size }
+
+-- a refusal at the place at: why, and the part that is shown
+abbrev pub bad_at : ℕ → Refusal → ℕ → BadEvent
+bad_at at why size = record { why = why; part = record { from = at; size = size } }
+
+-- what stands at the place at: a call, or nothing, where the events end; or why it is refused
+abbrev pub event_of : ℕ → events.Event → Result (Option Event) BadEvent
+event_of at (event call size) = Ok (Some (event_at at call size))
+event_of at no_more = Ok None
+event_of at (bad_event why size) = Err (bad_at at (refusal_of why) size)
 
 -- the place after the event at the place at; at the end and at a refused field there is none, and the place stays
-abbrev pub place_after : ℕ → Event → ℕ
+abbrev pub place_after : ℕ → events.Event → ℕ
 place_after at (event call size) = at + size
 place_after at no_more = at
 place_after at (bad_event why size) = at

@@ -4,46 +4,48 @@
 mod reader;
 
 ghost use Rattle.std.specs.Prelude.{◌≡◌, ◌+◌, ◌^◌, ◌<◌, ◌≤◌, length, drop};
-ghost use Rattle.rules.specs.Events.{event_length, read_event, tick_event, offer_event};
+ghost use Rattle.rules.specs.Calls.{offer_call};
+ghost use Rattle.rules.specs.Events.{event_length, read_event, tick_event};
+ghost use Rattle.rules.specs.Fields.{word};
 ghost use Rattle.wire.specs.Field.{length_of};
-ghost use Rattle.event.specs.Answers.{event_of, place_after};
+ghost use Rattle.event.specs.Answers.{bad_at, event_at, event_of, place_after};
 
-pub use reader::{EventReader, after, event_at, next, reader_at};
-use wire::{FieldCheck, ValueLength};
+pub use reader::{EventReader, reader_at};
+use refusal::Refusal;
+use wire::Part;
 
 const TICK_TAG: u8 = 0x21;
 
 const OFFER_TAG: u8 = 0x22;
 
-// What stands at a place: a tick or an offer, with the place after its field; the end; or a refusal's number, and the part of the
-// events that is shown.
-#[derive(Drop)]
-pub enum EventRead {
-    Tick {
-        set: u16,
-        done: bool,
-        soft: bool,
-        next: usize,
-    },
-    Offer {
-        budget: u16,
-        deadline: u16,
-        next: usize,
-    },
-    End,
-    Refused {
-        number: u8,
-        from: usize,
-        size: usize,
-    },
+// What an event calls: a tick or an offer.
+#[derive(Clone, Copy)]
+pub enum Call {
+    Tick { set: u16, done: bool, soft: bool },
+    Offer { budget: u16, deadline: u16 },
 }
 
-// The event at a place: checks 1, 2, 3, 1, then 20, in document 01's order. A place at the end or beyond it is the end.
-pub fn read_event(s: &[u8], at: usize) -> EventRead
+// A call, and the place after its field.
+#[derive(Clone, Copy)]
+pub struct Event {
+    pub call: Call,
+    pub next: usize,
+}
+
+// Why an event is refused, and the part of the events that is shown.
+#[derive(Clone, Copy)]
+pub struct BadEvent {
+    pub why: Refusal,
+    pub part: Part,
+}
+
+// The event at a place, none where the events end: checks 1, 2, 3, 1, then 20, in document 01's order. A place beyond the end is the end.
+#[tactic(auto, unfolding(rules::specs::Events::read_event))]
+pub fn read_event(s: &[u8], at: usize) -> Result<Option<Event>, BadEvent>
     ensures { result ≡ event_of at (read_event (drop at s.now)) }
 {
     if s.len() <= at {
-        EventRead::End
+        Ok(None)
     } else {
         first_event(&s[at..], at)
     }
@@ -54,90 +56,83 @@ pub fn place_after(s: &[u8], at: usize) -> usize
     ensures { result ≡ place_after at (read_event (drop at s.now)) }
 {
     match read_event(s, at) {
-        EventRead::Tick {
-            set: _,
-            done: _,
-            soft: _,
-            next,
-        } => next,
-        EventRead::Offer {
-            budget: _,
-            deadline: _,
-            next,
-        } => next,
-        EventRead::End => at,
-        EventRead::Refused {
-            number: _,
-            from: _,
-            size: _,
-        } => at,
+        Ok(Some(event)) => event.next,
+        Ok(None) => at,
+        Err(_) => at,
     }
 }
 
 // The event at the start of s, which is the place at of the events.
-fn first_event(s: &[u8], at: usize) -> EventRead
+#[tactic(auto, unfolding(rules::specs::Events::read_event))]
+fn first_event(s: &[u8], at: usize) -> Result<Option<Event>, BadEvent>
     requires { (1 ≤ length s.now) × (at + length s.now < 2 ^ 64) }
     ensures { result ≡ event_of at (read_event s.now) }
 {
     let tag = wire::tag_of(s);
     match wire::check_field(s, value_length(tag), false) {
-        FieldCheck::Bad { number, size } => EventRead::Refused {
-            number,
-            from: at,
-            size,
-        },
-        FieldCheck::Whole { size } => {
+        Err(bad) => Err(refused(bad.why, at, bad.size)),
+        Ok(size) => {
             if tag == TICK_TAG {
                 tick_event(s, at, size)
             } else {
-                offer_event(s, at, size)
+                Ok(Some(offer_event(s, at, size)))
             }
         }
     }
 }
 
 // How long the value of an event tag is.
-fn value_length(tag: u8) -> ValueLength
+fn value_length(tag: u8) -> Option<u16>
     ensures { length_of result ≡ event_length tag }
 {
-    if tag == TICK_TAG {
-        ValueLength::Known(3)
-    } else if tag == OFFER_TAG {
-        ValueLength::Known(4)
-    } else {
-        ValueLength::Unknown
+    match tag {
+        TICK_TAG => Some(3),
+        OFFER_TAG => Some(4),
+        _ => None,
     }
 }
 
 // A whole field with a tick's tag: 20, which shows all of it.
-fn tick_event(s: &[u8], at: usize, size: usize) -> EventRead
+fn tick_event(s: &[u8], at: usize, size: usize) -> Result<Option<Event>, BadEvent>
     requires { (6 ≤ length s.now) × (size ≡ 6) × (at + length s.now < 2 ^ 64) }
     ensures { result ≡ event_of at (tick_event s.now) }
 {
     let flags = s[5];
     if 4 <= flags {
-        return EventRead::Refused {
-            number: 20,
-            from: at,
-            size,
-        };
+        return Err(refused(Refusal::UnknownFlag, at, size));
     }
-    EventRead::Tick {
+    let call = Call::Tick {
         set: wire::get_u16(s, 3),
         done: flags % 2 == 1,
         soft: flags / 2 % 2 == 1,
+    };
+    Ok(Some(Event {
+        call,
+        next: at + size,
+    }))
+}
+
+// A whole field with an offer's tag.
+fn offer_event(s: &[u8], at: usize, size: usize) -> Event
+    requires { (7 ≤ length s.now) × (size ≡ 7) × (at + length s.now < 2 ^ 64) }
+    ensures { result ≡ event_at at (offer_call (word s.now 3) (word s.now 5)) 7 }
+{
+    let call = Call::Offer {
+        budget: wire::get_u16(s, 3),
+        deadline: wire::get_u16(s, 5),
+    };
+    Event {
+        call,
         next: at + size,
     }
 }
 
-// A whole field with an offer's tag.
-fn offer_event(s: &[u8], at: usize, size: usize) -> EventRead
-    requires { (7 ≤ length s.now) × (size ≡ 7) × (at + length s.now < 2 ^ 64) }
-    ensures { result ≡ event_of at (offer_event s.now) }
+// The bytes of an event that are shown stand from its place on.
+fn refused(why: Refusal, from: usize, size: usize) -> BadEvent
+    ensures { result ≡ bad_at from why size }
 {
-    EventRead::Offer {
-        budget: wire::get_u16(s, 3),
-        deadline: wire::get_u16(s, 5),
-        next: at + size,
+    BadEvent {
+        why,
+        part: Part { from, size },
     }
 }

@@ -1,21 +1,14 @@
-// The event reader: the lent bytes and its place in them. Its functions take it apart and call what works on slice and place.
+// The event reader: the lent bytes and its place in them.
 ghost use Rattle.std.specs.Prelude.{◌≡◌, drop};
 ghost use Rattle.rules.specs.Events.{read_event};
 ghost use Rattle.event.specs.Answers.{event_of, place_after};
 
-use crate::EventRead;
+use crate::{BadEvent, Event};
 
-#[derive(Drop)]
+#[derive(Clone, Copy)]
 pub struct EventReader<'a> {
     pub bytes: &'a [u8],
     pub at: usize,
-}
-
-// The event at a place, by a reader: for every caller that holds none.
-pub fn event_at(s: &[u8], at: usize) -> EventRead
-    ensures { result ≡ event_of at (read_event (drop at s.now)) }
-{
-    next(reader_at(s, at))
 }
 
 // A reader at a place.
@@ -25,17 +18,19 @@ pub fn reader_at<'a>(bytes: &'a [u8], at: usize) -> EventReader<'a>
     EventReader { bytes, at }
 }
 
-// The event at the reader's place.
-pub fn next<'a>(r: EventReader<'a>) -> EventRead
-    ensures { result ≡ event_of r.entry.at (read_event (drop r.entry.at r.entry.bytes.now)) }
-{
-    crate::read_event(r.bytes, r.at)
-}
+impl<'a> EventReader<'a> {
+    // The event at the reader's place.
+    pub fn next(self) -> Result<Option<Event>, BadEvent>
+        ensures { result ≡ event_of self.entry.at (read_event (drop self.entry.at self.entry.bytes.now)) }
+    {
+        crate::read_event(self.bytes, self.at)
+    }
 
-// The reader moved behind the event at its place; where there is none, it stays.
-pub fn after<'a>(r: EventReader<'a>) -> EventReader<'a>
-    ensures { (result.bytes ≡ r.entry.bytes) × (result.at ≡ place_after r.entry.at (read_event (drop r.entry.at r.entry.bytes.now))) }
-{
-    let at = crate::place_after(r.bytes, r.at);
-    EventReader { bytes: r.bytes, at }
+    // The reader moved behind the event at its place; where there is none, it stays.
+    pub fn after(self) -> EventReader<'a>
+        ensures { (result.bytes ≡ self.entry.bytes) × (result.at ≡ place_after self.entry.at (read_event (drop self.entry.at self.entry.bytes.now))) }
+    {
+        let at = crate::place_after(self.bytes, self.at);
+        EventReader { at, ..self }
+    }
 }

@@ -2,6 +2,7 @@
 use Rattle.std.proofs.Common.{◌≡◌, ℕ, zero, suc, ◌+◌, ◌-◌, ◌^◌, ◌<◌, ◌≤◌, min, Bool, true, false, cond, eqb, ltb, leb, length, set, sym, refl, ap, ◌∙◌, zero-add, add-one, arith, length-set, get_or-set_other, get_or-set_same, leb-false}
 use mathlib.Core.Path.{fun_ext}
 use Rattle.rules.specs.Lists.{sum}
+use Rattle.std.specs.Bool.{then_some}
 use Rattle.rules.specs.Refusals.{B_zero, d_under_b, queue_full, room_short}
 use Rattle.rules.specs.Station.{Firm, Station, closed, firm_of, nobody, opened, row_at}
 use Rattle.rules.specs.Tick.{bit}
@@ -10,13 +11,13 @@ use Rattle.rules.specs.Calls.{after_offer, offer_call, step}
 use Rattle.rules.specs.Image.{is_image}
 use Rattle.rules.proofs.Facts.{FirstIs}
 use Rattle.rules.proofs.ImageIs.{image_iff, image_kept}
+use Rattle.refusal.specs.declared.Refusal.TheVariants.{BZero, DUnderB, QueueFull, RoomShort}
 use Rattle.state.specs.declared.Rows.{Rows}
 use Rattle.state.specs.declared.State.{State}
 use Rattle.state.specs.Meaning.{Kept, Stored, age_at, entry, firm_at, firms_of, last_of, rows_from, slot_at, slots_of, station_of}
 use Rattle.state.proofs.Entries.{last_rows, total_rows}
 use Rattle.state.proofs.Positions.{length_rows, same_rows}
-use Rattle.offer.specs.declared.OfferMade.{OfferMade}
-use Rattle.offer.specs.Steps.{claim_at, claims_of, offer_made, open_of, queued_in, refused_by, ticket_for, unrun_of}
+use Rattle.offer.specs.Steps.{OfferMade, claim_at, claims_of, offer_made, open_of, queued_in, refused_by, row_now, ticket_for, unrun_of}
 use Rattle.offer.specs.Answers.{OfferIs, offered_of}
 
 -- the room
@@ -26,7 +27,7 @@ claim_is rows s d i = go (bit s.«open» i)
   where
     go : (o : Bool)
         → job_claim (entry rows.table.c i) ((slot_at rows s i).U - age_at rows s i) (cond o (opened (entry s.run i)) closed) d + future_claim (slot_at rows s i) d
-        ≡ cond o (open_of (entry rows.table.c i) (entry s.run i) (entry rows.u i) (age_at rows s i) d) 0 + future_claim (slot_at rows s i) d
+        ≡ open_of (row_now rows s i) d (then_some o (entry s.run i)) + future_claim (slot_at rows s i) d
     go true = refl
     go false = refl
 
@@ -107,7 +108,7 @@ module _ (rows : Rows) (s : State) (B : ℕ) (K : Kept rows s) (room : s.count <
 
 -- by the outcomes of the four tests: what is made of an offer, here and by the rules
 abbrev made_by : Bool → Bool → Bool → Bool → State → ℕ → OfferMade
-made_by a b c e s B = cond a (refused_by 15 s) (cond b (refused_by 16 s) (cond c (refused_by 17 s) (cond e (ticket_for s B) (refused_by 18 s))))
+made_by a b c e s B = cond a (refused_by BZero s) (cond b (refused_by DUnderB s) (cond c (refused_by QueueFull s) (cond e (ticket_for s B) (refused_by RoomShort s))))
 
 abbrev ruled_by : Bool → Bool → Bool → Bool → Station → ℕ → Offered
 ruled_by a b c e st B = cond a (no_offer B_zero) (cond b (no_offer d_under_b) (cond c (no_offer queue_full) (cond e (accept st B) (no_offer room_short))))

@@ -4,78 +4,45 @@
 mod room; // room.rt: what the hard rows claim of the window, and the budgets still unrun
 
 ghost use Rattle.std.specs.Prelude.{◌≡◌, ◌<◌};
-ghost use Rattle.offer.specs.Answers.{offer_number};
-ghost use Rattle.offer.specs.Steps.{queued_in, refused_by, offer_made};
+ghost use Rattle.offer.specs.Steps.{queued_in, offer_made};
 
+use refusal::Refusal;
 use state::{Rows, State};
 
-// To the caller, a ticket or a refusal by its number.
-#[derive(Drop)]
-pub enum Offered {
-    Ticket(u32),
-    Refused(u8),
-}
-
-#[derive(Drop)]
-pub struct OfferMade {
-    pub offered: Offered,
-    pub state: State,
-}
-
-// A ticket, or the number of the first check that fails; a refusal returns the state that it was given.
-pub fn offer(rows: Rows, s: State, budget: u16, deadline: u16) -> OfferMade
-    ensures { result ≡ offer_made rows s budget deadline }
+// The ticket under which the upload is queued, or the first check that refuses it; a refusal leaves the state as it was.
+#[tactic(auto, unfolding(crate::specs::Steps::offer_made))]
+pub fn offer(rows: &Rows, s: &mut State, budget: u16, deadline: u16) -> Result<u32, Refusal>
+    ensures value { result ≡ (offer_made rows.now s.old budget deadline).offered }
+    ensures state_after { s.new ≡ (offer_made rows.now s.old budget deadline).state }
 {
     if budget == 0 {
-        return refused(15, s);
+        return Err(Refusal::BZero);
     }
     if deadline < budget {
-        return refused(16, s);
+        return Err(Refusal::DUnderB);
     }
     if 8 <= s.count {
-        return refused(17, s);
+        return Err(Refusal::QueueFull);
     }
     let hard = room::claims(rows, s, deadline);
-    let firm = budget as u64 + room::unrun(s);
-    if hard + firm <= deadline as u64 {
-        return OfferMade {
-            offered: Offered::Ticket(s.next),
-            state: queued(s, budget),
-        };
+    let firm = u64::from(budget) + room::unrun(s);
+    if u64::from(deadline) < hard + firm {
+        return Err(Refusal::RoomShort);
     }
-    refused(18, s)
+    let ticket = s.next;
+    queue(s, budget);
+    Ok(ticket)
 }
 
-// Document 01's number of a refused offer, 0 where a ticket is given.
-pub fn offer_number(offered: Offered) -> u8
-    ensures { result ≡ offer_number offered }
-{
-    match offered {
-        Offered::Ticket(_) => 0,
-        Offered::Refused(number) => number,
-    }
-}
-
-fn refused(number: u8, s: State) -> OfferMade
-    ensures { result ≡ refused_by number s }
-{
-    OfferMade {
-        offered: Offered::Refused(number),
-        state: s,
-    }
-}
-
-// The state with one more firm job, behind the others, and the next ticket.
-fn queued(s: State, budget: u16) -> State
-    requires { s.count < 8 }
-    ensures { result ≡ queued_in s budget }
+// One more firm job, behind the others, under the next ticket.
+fn queue(s: &mut State, budget: u16)
+    requires { s.old.count < 8 }
+    ensures { s.new ≡ queued_in s.old budget }
 {
     let at = s.count;
-    let mut r = s;
-    r.budget[at] = budget;
-    r.used[at] = 0;
-    r.ticket[at] = s.next;
-    r.count = at + 1;
-    r.next = std::num::wrapping_add_u32(s.next, 1);
-    r
+    s.budget[at] = budget;
+    s.used[at] = 0;
+    s.ticket[at] = s.next;
+    s.count = at + 1;
+    s.next = s.next.wrapping_add(1);
 }

@@ -1,134 +1,113 @@
-// The sums of the room test: what the hard rows claim of the window, and the budgets still unrun.
-ghost use Rattle.std.specs.Prelude.{◌≡◌, ◌-◌, ◌<◌, ◌≤◌, min};
-ghost use Rattle.offer.specs.Steps.{age_of, open_of, future_of, row_claim, claim_at, claims_of, unrun_of};
+// The sums of the room test: what the hard rows claim of the window, and the budgets still unrun; each with a bound, so that they can be added.
+ghost use Rattle.std.specs.Prelude.{◌≡◌, ◌^◌, ◌<◌, ◌≤◌};
+ghost use Rattle.state.specs.Meaning.{age_at};
+ghost use Rattle.offer.specs.Steps.{claim_of, claims_of, future_of, open_of, row_now, unrun_of};
 
 use state::{Rows, State};
 
+// A row as it stands now: its C, T and U, its age, and how long its open job has run, if it has one.
+#[derive(Clone, Copy)]
+struct RowNow {
+    c: u16,
+    t: u16,
+    u: u16,
+    age: u32,
+    run: Option<u16>,
+}
+
 // What the rows claim of the next d ticks; rows from 16 on are not there.
-pub fn claims(rows: Rows, s: State, d: u16) -> u64
-    ensures { result ≡ claims_of rows s d }
+#[tactic(auto, unfolding(crate::specs::Steps::claims_of))]
+pub fn claims(rows: &Rows, s: &State, d: u16) -> u64
+    ensures value { result ≡ claims_of rows.now s.now d }
+    ensures bound { result < 2 ^ 36 }
 {
-    let n = at_most_16(rows.table.n);
     let mut sum: u64 = 0;
-    let mut i: usize = 0;
-    while i < n {
-        sum += claim_at(rows, s, d, i);
-        i += 1;
+    for i in 0..rows.table.n.min(16) {
+        sum += row_now(rows, s, i).claim(d);
     }
     sum
 }
 
-fn at_most_16(n: usize) -> usize
-    ensures { result ≡ min n 16 }
-{
-    if n < 16 { n } else { 16 }
-}
-
-// What the row at i claims.
-fn claim_at(rows: Rows, s: State, d: u16, i: usize) -> u64
+// The row at i.
+fn row_now(rows: &Rows, s: &State, i: usize) -> RowNow
     requires { i < 16 }
-    ensures { result ≡ claim_at rows s d i }
+    ensures { result ≡ row_now rows.now s.now i }
 {
-    let open = state::has(s.open as u32, i);
-    let rested = state::has(s.rested as u32, i);
-    let tb = rows.table;
-    let t = tb.t[i];
-    let a = age(rested, t, s.clock, s.stamp[i]);
-    row_claim(open, tb.c[i], t, rows.u[i], s.run[i], a, d)
-}
-
-fn age(rested: bool, t: u16, clock: u32, stamp: u32) -> u32
-    ensures { result ≡ age_of rested t clock stamp }
-{
-    if rested {
-        t as u32
-    } else {
-        state::since(clock, stamp)
+    RowNow {
+        c: rows.table.c[i],
+        t: rows.table.t[i],
+        u: rows.u[i],
+        age: age(rows, s, i),
+        run: state::has(u32::from(s.open), i).then_some(s.run[i]),
     }
 }
 
-// What a row's open job, if any, and its future jobs claim.
-fn row_claim(open: bool, c: u16, t: u16, u: u16, run: u16, age: u32, d: u16) -> u64
-    ensures { result ≡ row_claim «open» c t u run age d }
+// The age of the row at i: T where the rested mark is set.
+fn age(rows: &Rows, s: &State, i: usize) -> u32
+    requires { i < 16 }
+    ensures { result ≡ age_at rows.now s.now i }
 {
-    let future = future_claim(c, t, wait(t, age), u, d);
-    if open {
-        open_claim(c, run, u, age, d) + future
+    if state::has(u32::from(s.rested), i) {
+        u32::from(rows.table.t[i])
     } else {
-        future
+        state::since(s.clock, s.stamp[i])
     }
 }
 
-// The open job, with C − run ticks left, promoted max(0, U − age) ticks from now.
-fn open_claim(c: u16, run: u16, u: u16, age: u32, d: u16) -> u64
-    ensures { result ≡ open_of c run u age d }
-{
-    let left = less(c as u64, run as u64);
-    let until = less(u as u64, age as u64);
-    least(left, less(d as u64, until))
-}
-
-// Ticks until a row is rested.
-fn wait(t: u16, age: u32) -> u16
-    ensures { result ≡ t - age }
-{
-    if (t as u32) < age {
-        0
-    } else {
-        (t as u32 - age) as u16
+impl RowNow {
+    // What its open job, if any, and its future jobs claim of the next d ticks.
+    #[tactic(auto, using(crate::proofs::Bounds::claim_le))]
+    fn claim(self, d: u16) -> u64
+        ensures value { result ≡ claim_of self d }
+        ensures bound { result < 2 ^ 32 }
+    {
+        self.open_claim(d) + self.future_claim(d)
     }
-}
 
-// The future jobs, promoted from wait + U on, every T ticks: those of the window, d of them at most.
-fn future_claim(c: u16, t: u16, wait: u16, u: u16, d: u16) -> u64
-    ensures { result ≡ future_of c t wait u d }
-{
-    let cost = c as u64;
-    let period = t as u64;
-    let window = d as u64;
-    let mut at = wait as u64 + u as u64;
-    let mut sum: u64 = 0;
-    let mut k: u64 = 0;
-    while k < window {
-        if window <= at {
-            return sum;
+    // The open job, with C − run ticks left, promoted max(0, U − age) ticks from now.
+    fn open_claim(self, d: u16) -> u64
+        ensures { result ≡ open_of self d self.run }
+    {
+        let Some(run) = self.run else {
+            return 0;
+        };
+        let left = u32::from(self.c.saturating_sub(run));
+        let until = u32::from(self.u).saturating_sub(self.age);
+        u64::from(left.min(u32::from(d).saturating_sub(until)))
+    }
+
+    // The future jobs, promoted from wait + U on, every T ticks, with wait the ticks until the row is rested: those of the window, d of them at most.
+    #[tactic(auto, using(crate::proofs::Bounds::future_le, crate::proofs::Bounds::future_stops))]
+    fn future_claim(self, d: u16) -> u64
+        ensures { result ≡ future_of self d }
+    {
+        let wait = u32::from(self.t).saturating_sub(self.age);
+        let cost = u64::from(self.c);
+        let period = u64::from(self.t);
+        let window = u64::from(d);
+        let first = u64::from(wait) + u64::from(self.u);
+        let mut sum: u64 = 0;
+        for k in 0..window {
+            let at = first + k * period;
+            if window <= at {
+                return sum;
+            }
+            sum += cost.min(window - at);
         }
-        sum += least(cost, window - at);
-        at += period;
-        k += 1;
+        sum
     }
-    sum
 }
 
 // The budgets still unrun of the firm jobs queued.
-pub fn unrun(s: State) -> u64
-    requires { s.count ≤ 8 }
-    ensures { result ≡ unrun_of s }
+#[tactic(auto, unfolding(crate::specs::Steps::unrun_of))]
+pub fn unrun(s: &State) -> u64
+    requires { s.now.count ≤ 8 }
+    ensures value { result ≡ unrun_of s.now }
+    ensures bound { result < 2 ^ 19 }
 {
     let mut sum: u64 = 0;
-    let mut i: usize = 0;
-    while i < s.count {
-        sum += less(wide(s.budget[i]), wide(s.used[i]));
-        i += 1;
+    for i in 0..s.count {
+        sum += u64::from(s.budget[i].saturating_sub(s.used[i]));
     }
     sum
-}
-
-fn wide(x: u16) -> u64
-    ensures { result ≡ x }
-{
-    x as u64
-}
-
-// max(0, a − b)
-fn less(a: u64, b: u64) -> u64
-    ensures { result ≡ a - b }
-{
-    if a < b { 0 } else { a - b }
-}
-
-fn least(a: u64, b: u64) -> u64
-    ensures { result ≡ min a b }
-{
-    if a < b { a } else { b }
 }

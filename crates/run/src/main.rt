@@ -1,36 +1,54 @@
 // Reads table.bin and events.bin, each empty where it can't be opened or read, and prints a line an event: the dispatcher's answer, or why it is refused; after a tick's line one for each note.
 #![tactic(auto)]
 
-mod lines;
-
-ghost use Rattle.std.specs.Prelude.{◌≡◌, ◌<◌, IfOk, length, take};
+ghost use Rattle.std.specs.Prelude.{◌≡◌};
 ghost use Rattle.std.specs.Counts.{IsPrefixLen};
-ghost use Rattle.std.specs.Io.{ReadsAtMost};
-ghost use Rattle.std.specs.Io.KnownBytes.{Consumes, IsAtEnd};
 ghost use Rattle.dispatch.specs.Steps.{tick_in};
 ghost use Rattle.offer.specs.Steps.{offer_made};
 
-use event::EventRead;
-use offer::Offered;
+use console::{NoAnswer, fill};
+use event::Call;
+use refusal::Refusal;
 use state::{Rows, State};
 use std::fs::File;
 use std::io;
-use std::io::{Print, Read};
+use std::io::Print;
 use std::rt::Files;
-use wire::Place;
+use wire::{Part, Place};
+
+// What is run: the table's file and the events' file.
+#[derive(Clone, Copy)]
+struct Input<'a> {
+    table: &'a [u8],
+    events: &'a [u8],
+}
+
+impl<'a> Input<'a> {
+    // What is printed of a refusal: its number, and the part of one of the two files that it shows.
+    fn refused(self, why: Refusal, place: Place) -> NoAnswer<'a> {
+        NoAnswer::Refused {
+            why,
+            shown: wire::shown(self.table, self.events, place),
+        }
+    }
+}
 
 fn main(rt: HostRuntime) -> io::Result<()> {
     let mut table = [0u8; 257];
     let mut events = [0u8; 60001];
     let n = load(&rt, "table.bin", &mut table);
     if 256 < n {
-        return lines::too_long(&rt);
+        return rt.println(NoAnswer::TooLong);
     }
     let m = load(&rt, "events.bin", &mut events);
     if 60000 < m {
-        return lines::too_long(&rt);
+        return rt.println(NoAnswer::TooLong);
     }
-    run_files(&rt, &table[..n], &events[..m])
+    let input = Input {
+        table: &table[..n],
+        events: &events[..m],
+    };
+    run_files(&rt, input)
 }
 
 // How many bytes of a file are put at the front of the buffer, as far as it goes; none where it can't be opened or read.
@@ -43,118 +61,81 @@ fn load<R: Files>(rt: &R, path: &str, buffer: &mut [u8]) -> usize
     fill(&mut file, buffer).unwrap_or(0)
 }
 
-// How many bytes are put at the front of the buffer: reads go on until the input ends or the buffer is full.
-fn fill<R: Read>(reader: &mut R, buffer: &mut [u8]) -> io::Result<usize>
-    ensures bound { ReadsAtMost result buffer.new }
-    ensures bytes { IfOk result (λ n. Consumes (R.remaining reader.old) (R.remaining reader.new) (take n buffer.new)) }
-    ensures end { IfOk result (λ n. n < length buffer.new → IsAtEnd (R.remaining reader.new)) }
-{
-    let mut n = 0;
-    while n < buffer.len() {
-        let more = reader.read(&mut buffer[n..])?;
-        if more == 0 {
-            return Ok(n);
-        }
-        n += more;
-    }
-    Ok(n)
-}
-
-fn run_files<'a>(rt: &impl Print, table: &'a [u8], events: &'a [u8]) -> io::Result<()> {
-    let answer = table::read_table(table);
-    let verdict = answer.verdict;
-    match verdict {
-        table::FileVerdict::Accepted => {
-            let rows = answer.table;
-            let plan = answer.plan;
-            run_events(rt, table, events, state::planned_rows(rows, plan))
-        }
-        table::FileVerdict::Refused(refusal) => {
-            let place = Place::Table {
-                from: refusal.from,
-                size: refusal.size,
-            };
-            lines::refused(rt, table, events, refusal.number, place)
-        }
+fn run_files(rt: &impl Print, input: Input) -> io::Result<()> {
+    match table::read_table(input.table) {
+        Ok(planned) => run_events(rt, input, state::planned_rows(planned.table, planned.plan)),
+        Err(refusal) => rt.println(input.refused(refusal.why, Place::Table(refusal.part))),
     }
 }
 
 // The events in order, from the fresh state: to their end, or to the first that is no event.
-fn run_events<'a>(
-    rt: &impl Print,
-    table: &'a [u8],
-    events: &'a [u8],
-    rows: Rows,
-) -> io::Result<()> {
+fn run_events(rt: &impl Print, input: Input, rows: Rows) -> io::Result<()> {
     let mut state = state::fresh_state(rows.table.n);
-    let mut at: usize = 0;
+    let mut at = 0;
     loop {
-        match event::event_at(events, at) {
-            EventRead::Tick {
-                set,
-                done,
-                soft,
-                next,
-            } => {
-                tick(rt, rows, &mut state, set, done, soft)?;
-                at = next;
-            }
-            EventRead::Offer {
-                budget,
-                deadline,
-                next,
-            } => {
-                let field = Place::Events {
+        match event::read_event(input.events, at) {
+            Ok(Some(event)) => {
+                let field = Part {
                     from: at,
-                    size: next - at,
+                    size: event.next - at,
                 };
-                offer(rt, table, events, field, rows, &mut state, budget, deadline)?;
-                at = next;
+                called(rt, input, field, &rows, &mut state, event.call)?;
+                at = event.next;
             }
-            EventRead::End => {
+            Ok(None) => {
                 return Ok(());
             }
-            EventRead::Refused { number, from, size } => {
-                return lines::refused(rt, table, events, number, Place::Events { from, size });
+            Err(bad) => {
+                return rt.println(input.refused(bad.why, Place::Events(bad.part)));
             }
         }
+    }
+}
+
+// What an event calls; its field is shown where an offer is refused.
+fn called(
+    rt: &impl Print,
+    input: Input,
+    field: Part,
+    rows: &Rows,
+    state: &mut State,
+    call: Call,
+) -> io::Result<()> {
+    match call {
+        Call::Tick { set, done, soft } => tick(rt, rows, state, set, done, soft),
+        Call::Offer { budget, deadline } => offer(rt, input, field, rows, state, budget, deadline),
     }
 }
 
 // A tick; the state after it, also where a line can't be printed.
 fn tick(
     rt: &impl Print,
-    rows: Rows,
+    rows: &Rows,
     state: &mut State,
     set: u16,
     done: bool,
     soft: bool,
 ) -> io::Result<()>
-    ensures { state.new ≡ (tick_in rows state.old set done soft).state }
+    ensures { state.new ≡ (tick_in rows.now state.old set done soft).state }
 {
-    let ticked = dispatch::tick(rows, *state, set, done, soft);
-    *state = ticked.state;
-    lines::answered(rt, ticked.answer)
+    rt.print(dispatch::tick(rows, state, set, done, soft))
 }
 
 // An offer, whose field is shown where it is refused; the state after it, also where its line can't be printed.
-fn offer<'a>(
+fn offer(
     rt: &impl Print,
-    table: &'a [u8],
-    events: &'a [u8],
-    field: Place,
-    rows: Rows,
+    input: Input,
+    field: Part,
+    rows: &Rows,
     state: &mut State,
     budget: u16,
     deadline: u16,
 ) -> io::Result<()>
-    ensures { state.new ≡ (offer_made rows state.old budget deadline).state }
+    ensures { state.new ≡ (offer_made rows.now state.old budget deadline).state }
 {
-    let made = offer::offer(rows, *state, budget, deadline);
-    *state = made.state;
-    let offered = made.offered;
-    let Offered::Ticket(ticket) = offered else {
-        return lines::refused(rt, table, events, offer::offer_number(offered), field);
+    let offered = offer::offer(rows, state, budget, deadline);
+    let Ok(ticket) = offered else {
+        return rt.println(input.refused(offered.unwrap_err(), Place::Events(field)));
     };
-    lines::accepted(rt, ticket)
+    println!(rt; "offer F{ticket}")
 }

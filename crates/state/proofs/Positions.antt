@@ -1,16 +1,15 @@
 -- Lists made by position, under the functions that the rules walk them with. Assumes nothing.
-use Rattle.std.proofs.Common.{◌≡◌, ℕ, zero, suc, ◌+◌, ◌<◌, ◌≤◌, Bool, false, ◌&&◌, ◌||◌, eqb, ◌∷◌, map, length, sym, refl, ap, ◌∙◌, ap₂, inl, inr, le_of_suc-le-suc, not-suc-le-zero, add-zero, add-suc, suc-add, arith, eq-eqb, ne_eqb}
+use Rattle.std.proofs.Common.{◌≡◌, ℕ, zero, suc, ◌+◌, ◌^◌, ◌<◌, ◌≤◌, Bool, true, false, cond, ◌&&◌, ◌||◌, eqb, ◌∷◌, map, length, sym, refl, ap, ◌∙◌, ap₂, inl, inr, le_of_suc-le-suc, not-suc-le-zero, add-zero, add-suc, suc-add, arith, eq-eqb, ne_eqb, ltb, ltb-false, ltb-true}
+use Rattle.std.proofs.Math.Bool.{or-false}
 use mathlib.Core.Option.{none, some}
-use native.Mathlib.Decide.{dec_le}
+use native.Mathlib.Decide.{dec_le, dec_lt}
 use lib.ListN.{get_elem?}
 use Rattle.rules.specs.Lists.{All, any, each, find, first_of}
 use Rattle.rules.specs.Tick.{bit}
-use Rattle.rules.proofs.Bools.{cond_none}
 use Rattle.rules.proofs.Walks.{Holds}
 use Rattle.state.specs.Meaning.{rows_from}
 use Rattle.state.specs.Sets.{least}
-use Rattle.state.proofs.Bits.{first_least, found}
-use Rattle.state.proofs.Bools.{or_no}
+use Rattle.state.proofs.Bits.{found, least_below, least_in}
 
 module _ {A : Type 0} where
   pub length_rows : (g : ℕ → A) (i k : ℕ) → length (rows_from g i k) ≡ k
@@ -84,7 +83,7 @@ module _ {A : Type 0} where
     where
       go : Dec (suc i ≤ m) → (suc i ≤ m → any (λ j a. eqb j m && t a) (suc i) (rows_from g (suc i) k) ≡ t (g m)) → ((eqb i m && t (g i)) || any (λ j a. eqb j m && t a) (suc i) (rows_from g (suc i) k)) ≡ t (g m)
       go (yes q) ih = rw (ne_eqb i m (λ z. omega arith)) (ih q)
-      go (no q) ih = let e : i ≡ m = omega arith in rw (eq-eqb i m e, e, past t g m (suc m) k (omega arith)) (or_no (t (g m)))
+      go (no q) ih = let e : i ≡ m = omega arith in rw (eq-eqb i m e, e, past t g m (suc m) k (omega arith)) (or-false (t (g m)))
 
   -- the first that passes a test
 
@@ -103,20 +102,26 @@ first_short p q i (suc k) zero l same clear = absurd (not-suc-le-zero l)
 first_short p q i (suc k) (suc m) l same clear =
     rw (same i (omega arith) (omega arith), first_short p q (suc i) k m (le_of_suc-le-suc l) (λ j a b. same j (omega arith) (omega arith)) (λ j a b. clear j (omega arith) (omega arith)))
 
-pub not_first : (p : ℕ → Bool) (i k : ℕ) → first_of p i k ≡ none → (j : ℕ) → i ≤ j → j < i + k → p j ≡ false
-not_first p i zero e j l h = absurd (omega arith)
-not_first p i (suc k) e j l h =
-    let none_of = cond_none (p i) i (first_of p (suc i) k) e in
-    go (dec_le (suc i) j) none_of (λ m. not_first p (suc i) k none_of.1 j m (omega arith))
+first_at : (p : ℕ → Bool) (i n k : ℕ) → i ≤ k → k < i + n → ((j : ℕ) → i ≤ j → j < k → p j ≡ false) → p k ≡ true → first_of p i n ≡ some k
+first_at p i zero k l h clear here = absurd (omega arith)
+first_at p i (suc n) k l h clear here = go (dec_lt i k) (λ m. first_at p (suc i) n k m (omega arith) (λ j a b. clear j (omega arith) b) here)
   where
-    go : Dec (suc i ≤ j) → (p i ≡ false) × (first_of p (suc i) k ≡ none) → (suc i ≤ j → p j ≡ false) → p j ≡ false
-    go (yes m) none_of ih = ih m
-    go (no m) none_of ih = let q : i ≡ j = omega arith in rw (sym q) none_of.0
+    go : Dec (i < k) → (i < k → first_of p (suc i) n ≡ some k) → cond (p i) (some i) (first_of p (suc i) n) ≡ some k
+    go (yes m) ih = rw (clear i (omega arith) m) (ih m)
+    go (no m) ih = let e : i ≡ k = omega arith in rw (e, here)
+
+-- the first row of a set is its lowest
+first_least : (x : ℕ) → x < 2 ^ 16 → first_of (bit x) 0 16 ≡ found (least x)
+first_least x small = go (ltb (least x) 16) refl
+  where
+    go : (b : Bool) → ltb (least x) 16 ≡ b → first_of (bit x) 0 16 ≡ cond b (some (least x)) none
+    go true e = let l = ltb-true (least x) 16 e in first_at (bit x) 0 16 (least x) (omega arith) l (λ j a b. least_below x j small b) (least_in x small l)
+    go false e = let l = ltb-false (least x) 16 e in first_none (bit x) 0 16 (λ j a b. least_below x j small (omega arith))
 
 -- the first of n rows is the lowest of a set of rows below n
-pub find_least : {A : Type 0} (t : ℕ → A → Bool) (g : ℕ → A) (x n : ℕ) → n ≤ 16 → ((j : ℕ) → j < n → bit x j ≡ t j (g j)) → ((j : ℕ) → n ≤ j → bit x j ≡ false)
+pub find_least : {A : Type 0} (t : ℕ → A → Bool) (g : ℕ → A) (x n : ℕ) → x < 2 ^ 16 → n ≤ 16 → ((j : ℕ) → j < n → bit x j ≡ t j (g j)) → ((j : ℕ) → n ≤ j → bit x j ≡ false)
     → find t 0 (rows_from g 0 n) ≡ found (least x)
-find_least t g x n h is past =
+find_least t g x n small h is past =
     find_first t g 0 n
     ∙ sym (first_short (λ j. t j (g j)) (bit x) 0 n 16 h (λ j a b. is j (omega arith)) (λ j a b. past j (omega arith)))
-    ∙ first_least x (bit x) (λ j l. refl)
+    ∙ first_least x small

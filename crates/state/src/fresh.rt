@@ -8,11 +8,13 @@ use table::{Plan, Table};
 pub fn planned_rows(tb: Table, plan: Plan) -> Rows
     ensures { result ≡ planned_rows tb plan }
 {
+    // By itself: the check doesn't follow an array from a field straight into a literal.
     let u = plan.u;
     Rows { table: tb, u }
 }
 
 // The state of a fresh table of n rows, more than 16 counted as 16: every row rested, the clock at 0, nobody ran.
+#[tactic(auto, unfolding(crate::specs::Fresh::fresh_in))]
 pub fn fresh_state(n: usize) -> State
     ensures { result ≡ fresh_in n }
 {

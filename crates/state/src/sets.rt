@@ -8,11 +8,7 @@ ghost use Rattle.state.specs.Sets.{known};
 pub fn known_rows(n: usize) -> u16
     ensures { result ≡ known n }
 {
-    if n < 16 {
-        let above = 16 - n;
-        return (65535u32 >> above) as u16;
-    }
-    65535
+    (65535u32 >> 16usize.saturating_sub(n)) as u16
 }
 
 // The row is in the set.
@@ -27,5 +23,5 @@ pub fn has(set: u32, i: usize) -> bool
 pub fn since(clock: u32, stamp: u32) -> u32
     ensures { result ≡ wrapped clock stamp }
 {
-    std::num::wrapping_sub_u32(clock, stamp)
+    clock.wrapping_sub(stamp)
 }

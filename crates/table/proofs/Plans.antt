@@ -1,32 +1,24 @@
 -- The plan of a table, a row at a time: what is planned so far, in memory, and the plan of the rows that are left. Assumes nothing.
 use Prim.Native.Nat.{ℕ, suc, ◌+◌, ◌-◌, ◌≤◌, ◌<◌}
 use mathlib.Core.Path.{◌≡◌, refl, sym, ap, ◌∙◌}
-use mathlib.Core.Bool.{Bool, cond}
+use mathlib.Core.Bool.{Bool, true, false, cond}
 use mathlib.Core.List.{List, [], ◌∷◌, ◌++◌, map, append_assoc, append-nil}
 use native.Mathlib.Numerals.{add-one}
 use native.Mathlib.Omega.{arith}
+use lib.Dec.{ltb}
 use lib.ListN.{length, set, length-append}
-use borrow.Author.Tests.{le-ltb, lt-ltb}
-use Rattle.rules.specs.Refusals.{R_M_over_D, at_row}
+use borrow.Author.Tests.{le-ltb, lt-ltb, ltb-false, ltb-true}
+use Rattle.std.specs.Prelude.{Result, Ok, Err}
+use Rattle.rules.specs.Refusals.{R_M_over_D, at_row, passes_d}
 use Rattle.rules.specs.Rows.{Row}
 use Rattle.rules.specs.Bound.{Bound, bound, none_to_d, onto, response, promotion, PlannedRow, planned, unplanned, with_row, plan_rows}
 use Rattle.rules.specs.Bound as rules
 use Rattle.table.specs.Memory.{indexed, fill, table_row, rows_of, above_of}
-use Rattle.table.specs.Answers.{bound_of, refused_planning, planning_of}
+use Rattle.table.specs.Answers.{bounded_of, planning_of, refused_of, row_bound}
 use Rattle.table.specs.declared.Table.{Table}
-use Rattle.table.specs.declared.Planning.{Planning}
-use Rattle.table.specs.declared.Checked.{Checked}
+use Rattle.table.specs.declared.Refused.{Refused}
 use Rattle.table.specs.declared.bounds.Bound as code
 use Rattle.table.proofs.Places.{column_next}
-
--- what the code's bound says of the rules'
-pub bound_found : (b : Bound) {w k : ℕ} → code.Bound.Found w k ≡ bound_of b → b ≡ bound w k
-bound_found (bound R k) e = cc
-bound_found none_to_d e = absurd (let z : ◌≡◌ {A = ℕ} 0 1 = cc in omega arith)
-
-pub bound_passes : (b : Bound) → code.Bound.PassesD ≡ bound_of b → b ≡ none_to_d
-bound_passes (bound R k) e = absurd (let z : ◌≡◌ {A = ℕ} 0 1 = cc in omega arith)
-bound_passes none_to_d e = refl
 
 -- planned rows before a plan
 abbrev pub prepend : List PlannedRow → rules.Plan → rules.Plan
@@ -55,6 +47,10 @@ plan_next tb i h =
     let left : tb.n - i ≡ suc (tb.n - suc i) = omega arith in
     ap (λ (n : ℕ). plan_rows (above_of tb i) i (indexed (table_row tb) i n)) left
     ∙ ap (λ (k : ℕ). with_row (table_row tb i) i (response (above_of tb i) (table_row tb i)) (plan_from tb k)) (sym (add-one i))
+
+-- a bound by whether it passes D with the margin
+abbrev margined : (i w k : ℕ) → Bool → Result code.Bound Refused
+margined i w k over = cond over (Err (refused_of (at_row R_M_over_D i))) (Ok (record { r = w; rounds = k }))
 
 -- the first i rows are planned, and stand in memory
 pub record SoFar (tb : Table) (i : ℕ) (r u rounds : List ℕ) : Type 0 where
@@ -99,18 +95,43 @@ module _ (tb : Table) (i : ℕ) (r u rounds : List ℕ) (so : SoFar tb i r u rou
         plan_is = plan_turn more e ∙ ap (prepend so.rows) (row_fits (table_row tb i) i w k (plan_from tb (i + 1)) fits) ∙ prepend_row so.rows p (plan_from tb (i + 1));
       }
 
-  pub bound_fails : i < tb.n → response (above_of tb i) (table_row tb i) ≡ none_to_d → refused_planning 10 i ≡ planning_of (plan_rows [] 0 (rows_of tb))
-  bound_fails more e = sym (ap planning_of (plan_turn more e))
+  -- the bound of row i is refused and leaves its margin
+  pub bound_fails : i < tb.n → {x : Refused} → row_bound tb i ≡ Err x → planning_of (plan_rows [] 0 (rows_of tb)) ≡ Err x
+  bound_fails more {x} e = go (response (above_of tb i) (table_row tb i)) refl e
+    where
+      go : (b : Bound) → response (above_of tb i) (table_row tb i) ≡ b → bounded_of (table_row tb i) i b ≡ Err x → planning_of (plan_rows [] 0 (rows_of tb)) ≡ Err x
+      go none_to_d h e = let same : refused_of (at_row passes_d i) ≡ x = cc in ap planning_of (plan_turn more h) ∙ ap Err same
+      go (bound w k) h e = margin (ltb (table_row tb i).D (w + (table_row tb i).M)) refl e
+        where
+          margin : (over : Bool) → ltb (table_row tb i).D (w + (table_row tb i).M) ≡ over
+              → margined i w k over ≡ Err x → planning_of (plan_rows [] 0 (rows_of tb)) ≡ Err x
+          margin true q e =
+              let same : refused_of (at_row R_M_over_D i) ≡ x = cc in
+              ap planning_of (plan_turn more h ∙ ap (prepend so.rows) (row_over (table_row tb i) i w k (plan_from tb (i + 1)) (ltb-true _ _ q))) ∙ ap Err same
+          margin false q e = cc
 
-  pub margin_fails : i < tb.n → {w k : ℕ} → response (above_of tb i) (table_row tb i) ≡ bound w k → (table_row tb i).D < w + (table_row tb i).M → refused_planning 22 i ≡ planning_of (plan_rows [] 0 (rows_of tb))
-  margin_fails more {w} {k} e over =
-      sym (ap planning_of (plan_turn more e ∙ ap (prepend so.rows) (row_over (table_row tb i) i w k (plan_from tb (i + 1)) over)))
-
-  pub all_planned : tb.n ≤ i → ◌≡◌ {A = Planning} (record { verdict = Checked.Passed; plan = record { r = r; u = u; rounds = rounds } }) (planning_of (plan_rows [] 0 (rows_of tb)))
+  pub all_planned : tb.n ≤ i → Ok (record { r = r; u = u; rounds = rounds }) ≡ planning_of (plan_rows [] 0 (rows_of tb))
   unfolding plan_rows
   all_planned done =
       let left : tb.n - i ≡ 0 = omega arith in
       let whole : plan_rows [] 0 (rows_of tb) ≡ planned so.rows =
       so.plan_is ∙ ap (λ (n : ℕ). prepend so.rows (plan_rows (above_of tb i) i (indexed (table_row tb) i n))) left ∙ ap planned (append-nil so.rows)
       in
-      (λ k. record { verdict = Checked.Passed; plan = record { r = so.r_is k; u = so.u_is k; rounds = so.rounds_is k } }) ∙ sym (ap planning_of whole)
+      ap Ok (λ k. record { r = so.r_is k; u = so.u_is k; rounds = so.rounds_is k }) ∙ sym (ap planning_of whole)
+
+-- what a bound that stands says of the rules'
+pub bounded : (tb : Table) (i : ℕ) {b : code.Bound} → row_bound tb i ≡ Ok b → (response (above_of tb i) (table_row tb i) ≡ bound b.r b.rounds) × (b.r + (table_row tb i).M ≤ (table_row tb i).D)
+bounded tb i {b} e = go (response (above_of tb i) (table_row tb i)) refl e
+  where
+    go : (x : Bound) → response (above_of tb i) (table_row tb i) ≡ x → bounded_of (table_row tb i) i x ≡ Ok b
+        → (response (above_of tb i) (table_row tb i) ≡ bound b.r b.rounds) × (b.r + (table_row tb i).M ≤ (table_row tb i).D)
+    go none_to_d h e = cc
+    go (bound w k) h e = margin (ltb (table_row tb i).D (w + (table_row tb i).M)) refl e
+      where
+        margin : (over : Bool) → ltb (table_row tb i).D (w + (table_row tb i).M) ≡ over
+            → margined i w k over ≡ Ok b
+            → (response (above_of tb i) (table_row tb i) ≡ bound b.r b.rounds) × (b.r + (table_row tb i).M ≤ (table_row tb i).D)
+        margin true q e = cc
+        margin false q e =
+            let same : ◌≡◌ {A = code.Bound} (record { r = w; rounds = k }) b = cc in
+            (h ∙ ap (λ (x : code.Bound). bound x.r x.rounds) same, omega (arith, ap (λ (x : code.Bound). x.r) same, ltb-false _ _ q))

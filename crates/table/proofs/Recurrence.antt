@@ -1,36 +1,17 @@
 -- The recurrence of a row: how large a term is, that f grows, and one turn of the iteration. Assumes nothing.
-use Prim.Native.Nat.{ℕ, zero, suc, ◌+◌, ◌-◌, ◌*◌, ◌≤◌, ◌<◌}
+use Prim.Native.Nat.{ℕ, zero, suc, ◌+◌, ◌-◌, ◌≤◌, ◌<◌}
 use mathlib.Core.Path.{◌≡◌, refl, sym, ap, ◌∙◌}
 use mathlib.Core.List.{List}
-use native.Mathlib.Nat.{mul-le-mul, mul-le-mul_right, div-lt_iff_lt-mul, add-le-add, le_refl}
+use native.Mathlib.Nat.{mul-le-mul_right, add-le-add, le_refl}
 use native.Mathlib.Numerals.{add-one}
 use native.Mathlib.Omega.{arith}
-use lib.ListN.{get_or}
 use borrow.Author.Tests.{eq-eqb, ne_eqb, lt-ltb, le-ltb}
 use Rattle.rules.specs.Rows.{Row}
-use Rattle.rules.specs.Bound.{ceil, most, f, Bound, bound, none_to_d, iterate, response}
+use Rattle.rules.specs.Bound.{f, Bound, bound, none_to_d, iterate, response}
 use Rattle.rules.proofs.Ceil.{ceil_mono}
 use Rattle.table.specs.Memory.{table_row, above_of, Sound}
 use Rattle.table.specs.Answers.{demand_of}
 use Rattle.table.specs.declared.Table.{Table}
-
-pub term_le : (w T C : ℕ) → w < 65536 → 1 ≤ T → C < 65536 → ceil w T * C ≤ 65535 * 65535
-term_le w T C hw ht hc =
-    let h : ceil w T < 65536 = (div-lt_iff_lt-mul ht).1 (omega arith) in
-    mul-le-mul {n₂ = 65535} {m₂ = 65535} (omega arith) (omega arith)
-
--- what the first j rows ask at most of w ticks, by the columns of C and T
-abbrev pub asked : (c t : List ℕ) (w j : ℕ) → ℕ
-asked c t w zero = 0
-asked c t w (suc j) = ceil w (get_or t j 0) * get_or c j 0 + asked c t w j
-
--- one row more, as the code counts
-pub asked_next : (c t : List ℕ) (w j : ℕ) → asked c t w (j + 1) ≡ ceil w (get_or t j 0) * get_or c j 0 + asked c t w j
-asked_next c t w j = ap (asked c t w) (add-one j)
-
-pub asked_above : (tb : Table) (w i : ℕ) → asked tb.c tb.t w i ≡ demand_of (above_of tb i) w
-asked_above tb w zero = refl
-asked_above tb w (suc i) = ap (λ (k : ℕ). most (table_row tb i) w + k) (asked_above tb w i)
 
 pub demand_mono : (tb : Table) (i w v : ℕ) → w ≤ v → Sound tb i → demand_of (above_of tb i) w ≤ demand_of (above_of tb i) v
 demand_mono tb zero w v h ok = le_refl 0

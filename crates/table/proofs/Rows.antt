@@ -6,23 +6,20 @@ use mathlib.Core.List.{List, [], ◌∷◌, ◌++◌, map, map-map, append_assoc
 use native.Mathlib.Nat.{not-suc-le-zero}
 use native.Mathlib.Omega.{arith}
 use lib.Dec.{eqb}
-use lib.ListN.{length, get_or, set, drop, length-append, length-map}
-use lib.Seq.{get_or-drop, sets}
-use borrow.Author.Tests.{lt-ltb, le-ltb, ne_eqb}
+use native.Mathlib.Numerals.{add-one}
+use lib.ListN.{length, get_or, set, drop, take, length-append, length-map}
+use Rattle.std.specs.Prelude.{sum_by}
+use Rattle.std.proofs.lemmas.List.Sums.{sum_by_push}
+use lib.Seq.{sets, take-suc}
+use borrow.Author.Tests.{lt-ltb, le-ltb}
 use Rattle.rules.specs.Rows.{Row}
-use Rattle.rules.specs.Fields.{word}
 use Rattle.rules.specs.Refusals.{small_output}
 use Rattle.rules.specs.File.{Field, field_of, field_rows, file_bytes, margin_bytes, plain_bytes, put, row_bytes, unwritten, written}
 use Rattle.wire.proofs.Stores.{sets_front}
-use Rattle.table.specs.Memory.{indexed, file_rows, fill, row_size, rows_bytes}
+use Rattle.table.specs.Memory.{indexed, fill, table_of, row_size, rows_bytes, table_row}
+use Rattle.table.specs.declared.Table.{Table}
 use Rattle.table.specs.Walk.{fields_in, start_of}
-use Rattle.table.specs.declared.scan.FileRows.{FileRows}
 use Rattle.table.proofs.Places.{length_indexed, indexed_more, column_next}
-
-pub word_drop : (s : List ℕ) (k at : ℕ) → word (drop k s) at ≡ word s (k + at)
-word_drop s k at =
-    let e : k + (at + 1) ≡ k + at + 1 = omega arith in
-    simp get_or-drop (ap (λ (i : ℕ). get_or s (k + at) 0 * 256 + get_or s i 0) e)
 
 -- a column of the fields of a file: of their tags, or of their rows
 abbrev pub Column : (Field → ℕ) → List ℕ → ℕ → List ℕ → Type 0
@@ -36,32 +33,27 @@ column_more h s i x so_far few v =
     ∙ column_next h (fields_in s i) (g i) i x (length_indexed g 0 i) few v
     ∙ ap (λ (l : List Field). fill 16 (map h l)) (sym (indexed_more g i))
 
--- the columns, all filled, are the file's rows
-pub columns_rows : (s : List ℕ) (i n : ℕ) {tag c d t rank m : List ℕ} → i ≡ n
-    → Column (λ f. f.tag) s i tag
+-- the columns, all filled, are the table of the file's rows
+pub columns_table : (s : List ℕ) (i n : ℕ) {c d t rank m : List ℕ} → i ≡ n
     → Column (λ f. f.row.C) s i c
     → Column (λ f. f.row.D) s i d
     → Column (λ f. f.row.T) s i t
     → Column (λ f. f.row.rank) s i rank
     → Column (λ f. f.row.M) s i m
-    → ◌≡◌ {A = FileRows} (record { table = record { n = n; c = c; d = d; t = t; rank = rank; m = m }; tag = tag }) (file_rows (fields_in s n))
-columns_rows s i n {tag} {c} {d} {t} {rank} {m} e ptag pc pd pt pr pm =
+    → ◌≡◌ {A = Table} (record { n = n; c = c; d = d; t = t; rank = rank; m = m }) (table_of (field_rows (fields_in s n)))
+columns_table s i n {c} {d} {t} {rank} {m} e pc pd pt pr pm =
     let fs = fields_in s i in
     let all : i ≡ length (field_rows fs) = sym (length-map fs (λ f. f.row) ∙ length_indexed (λ k. field_of (drop (start_of s k) s)) 0 i) in
     let row : (h : Row → ℕ) → fill 16 (map (λ f. h f.row) fs) ≡ fill 16 (map h (field_rows fs)) = λ h. ap (fill 16) (sym (map-map h (λ f. f.row) fs)) in
     rw (← e)
     (λ k.
     record {
-      table =
-          record {
-            n = all k;
-            c = (pc ∙ row (λ r. r.C)) k;
-            d = (pd ∙ row (λ r. r.D)) k;
-            t = (pt ∙ row (λ r. r.T)) k;
-            rank = (pr ∙ row (λ r. r.rank)) k;
-            m = (pm ∙ row (λ r. r.M)) k;
-          };
-      tag = ptag k;
+      n = all k;
+      c = (pc ∙ row (λ r. r.C)) k;
+      d = (pd ∙ row (λ r. r.D)) k;
+      t = (pt ∙ row (λ r. r.T)) k;
+      rank = (pr ∙ row (λ r. r.rank)) k;
+      m = (pm ∙ row (λ r. r.M)) k;
     })
 
 rows_bytes_append : (rs ss : List Row) → rows_bytes (rs ++ ss) ≡ rows_bytes rs ++ rows_bytes ss
@@ -75,9 +67,6 @@ size_within M = go (eqb M 0)
     go : (b : Bool) → (10 ≤ cond b 10 12) × (cond b 10 12 ≤ 12)
     go true = (omega arith, omega arith)
     go false = (omega arith, omega arith)
-
-pub size_with : (M : ℕ) → (M ≡ 0 → ⊥) → row_size M ≡ 12
-size_with M some_margin = ap (λ (b : Bool). cond b 10 12) (ne_eqb M 0 some_margin)
 
 pub length_row : (r : Row) → length (row_bytes r) ≡ row_size r.M
 length_row r = go (eqb r.M 0)
@@ -133,3 +122,13 @@ module _ (bytes out : List ℕ) (size : ℕ) (long : length bytes ≡ size) wher
       ap (λ (b : Bool). cond b (unwritten small_output) (written (length bytes) (bytes ++ drop (length bytes) out))) (le-ltb (length out) (length bytes) (omega arith))
       ∙ ap (λ (n : ℕ). written n (bytes ++ drop (length bytes) out)) long
       ∙ ap (written size) (sym (sets_front bytes out (omega arith)))
+
+-- what the fields of the first rows take, by the column of margins
+pub row_sizes_lem : (tb : Table) (n : ℕ) → n ≤ length tb.m → sum_by row_size (take n tb.m) ≡ length (rows_bytes (indexed (table_row tb) 0 n))
+row_sizes_lem tb zero h = refl
+row_sizes_lem tb (suc n) h =
+    ap (sum_by row_size) (take-suc tb.m n 0 (omega arith))
+    ∙ sum_by_push row_size (take n tb.m) (get_or tb.m n 0)
+    ∙ ap (λ (k : ℕ). k + row_size (get_or tb.m n 0)) (row_sizes_lem tb n (omega arith))
+    ∙ length_more (table_row tb) n
+    ∙ ap (λ (k : ℕ). length (rows_bytes (indexed (table_row tb) 0 k))) (add-one n)

@@ -3,12 +3,11 @@ use Prim.Native.Nat.{ℕ, zero, suc, ◌+◌, ◌-◌, ◌≤◌, ◌<◌}
 use mathlib.Core.Bool.{Bool, true, false, cond}
 use mathlib.Core.List.{List, [], ◌∷◌, ◌++◌}
 use mathlib.Core.Path.{◌≡◌, refl, sym, ap, subst, ◌∙◌}
-use native.Mathlib.Nat.{add-zero}
 use native.Mathlib.Numerals.{add-one}
 use native.Mathlib.Omega.{arith}
 use lib.Dec.{eqb}
-use lib.ListN.{length, drop, get_or, take, length-drop}
-use lib.Seq.{drop-drop, get_or-drop}
+use lib.ListN.{drop, take, length-drop}
+use lib.Seq.{drop-drop}
 use Rattle.rules.specs.Fields.{byte}
 use Rattle.rules.specs.File.{Field, field_of, margin_tag, size_of, sizes}
 use Rattle.wire.specs.Field.{field_size}
@@ -24,21 +23,9 @@ size_within tag = go (eqb tag margin_tag)
     go true = (omega arith, omega arith)
     go false = (omega arith, omega arith)
 
--- the byte at a place is the tag of the field there
-pub tag_at_lem : (s : List ℕ) (at : ℕ) → tag_at s at ≡ get_or s at 0
-tag_at_lem s at = get_or-drop at s 0 0 ∙ ap (λ (i : ℕ). get_or s i 0) (add-zero at)
-
 -- one field further, as the code counts
 pub start_next : (s : List ℕ) (k at size : ℕ) → at ≡ start_of s k → size ≡ size_at s at → at + size ≡ start_of s (k + 1)
 start_next s k at size here e = ap (λ (n : ℕ). at + n) e ∙ ap (λ (n : ℕ). n + size_at s n) here ∙ ap (start_of s) (sym (add-one k))
-
--- a row's field, come to by walking
-pub row_stands : (s : List ℕ) (n k at : ℕ) → RowFields s n → k < n → at ≡ start_of s k → Stands s at
-row_stands s n k at fields l here = subst (Stands s) (sym here) (fields k l)
-
--- its header is in the file
-pub header_stands : (s : List ℕ) (at : ℕ) → Stands s at → at + 3 ≤ length s
-header_stands s at stands = omega (arith, stands.1, (size_within (tag_at s at)).0)
 
 -- past the first field the rest of a file is walked as the file is
 pub start_shift : (s : List ℕ) (k : ℕ) → start_of s (suc k) ≡ field_size s + start_of (drop (field_size s) s) k

@@ -3,11 +3,11 @@ use Rattle.std.specs.Prelude.{ℕ, zero, suc, ◌<◌, cond, List, [], ◌∷◌
 use Rattle.rules.specs.Rows.{Row}
 use Rattle.rules.specs.Bound.{PlannedRow, promotion}
 use Rattle.rules.specs.Fields.{two}
-use Rattle.rules.specs.File.{Field, field_rows, row_bytes}
+use Rattle.rules.specs.File.{Field, row_bytes}
 use Rattle.rules.specs.Tables.{RowOk}
 use Rattle.table.specs.declared.Table.{Table}
 use Rattle.table.specs.declared.Plan.{Plan}
-use Rattle.table.specs.declared.scan.FileRows.{FileRows}
+use Rattle.table.specs.declared.row.FileRows.{FileRows}
 
 -- g from, g (from + 1), .., n of them
 abbrev pub indexed : {A : Type 0} → (ℕ → A) → ℕ → ℕ → List A
@@ -53,10 +53,6 @@ field_at rows i = record { tag = get_or rows.tag i 0; row = table_row rows.table
 abbrev pub fields_of : FileRows → List Field
 fields_of rows = indexed (field_at rows) 0 rows.table.n
 
--- fields as a file's rows in memory
-abbrev pub file_rows : List Field → FileRows
-file_rows fs = record { table = table_of (field_rows fs); tag = fill 16 (map (λ f. f.tag) fs) }
-
 -- a plan in memory
 abbrev pub plan_of : List PlannedRow → Plan
 plan_of ps =
@@ -79,8 +75,8 @@ abbrev pub header_bytes : (tag bytes : ℕ) → List ℕ
 header_bytes tag bytes = tag ∷ two bytes
 
 -- the numbers that both forms of a row's field have
-abbrev pub numbers_bytes : (C D T rank : ℕ) → List ℕ
-numbers_bytes C D T rank = two C ++ (two D ++ (two T ++ (rank ∷ [])))
+abbrev pub numbers_bytes : Row → List ℕ
+numbers_bytes r = two r.C ++ (two r.D ++ (two r.T ++ (r.rank ∷ [])))
 
 -- the bytes of rows, with no end field
 abbrev pub rows_bytes : List Row → List ℕ

@@ -2,119 +2,96 @@
 ghost use Rattle.std.specs.Prelude.{◌≡◌, [], suc, ◌+◌, ◌-◌, ◌*◌, ◌≤◌, ◌<◌};
 ghost use Rattle.rules.specs.Bound.{response, plan_rows};
 ghost use Rattle.table.specs.Memory.{table_row, rows_of, above_of, Sound};
-ghost use Rattle.table.specs.Answers.{demand_of, bound_of, refused_planning, planning_of};
+ghost use Rattle.table.specs.Answers.{demand_of, bound_of, planning_of, row_bound};
 
-use crate::{Checked, Plan, Planning, Table};
+use crate::{Plan, Refused, Table};
+use refusal::Refusal;
 
-// What the iteration of a row comes to: it repeats at w after so many rounds, or it passes D.
-#[derive(Drop)]
-pub enum Bound {
-    Found { w: u16, rounds: u16 },
-    PassesD,
+// What the iteration of a row comes to: it repeats at r after so many rounds.
+#[derive(Clone, Copy)]
+pub struct Bound {
+    pub r: u16,
+    pub rounds: u16,
 }
 
-// The plan of a table that passes 6 to 9: rows in order, 10 and then 22 in each.
-pub fn plan_rows(tb: Table) -> Planning
-    requires { (tb.n ≤ 16) × Sound tb tb.n }
-    ensures { result ≡ planning_of (plan_rows [] 0 (rows_of tb)) }
-{
-    let mut r = [0u16; 16];
-    let mut u = [0u16; 16];
-    let mut rounds = [0u16; 16];
-    let mut i: usize = 0;
-    while i < tb.n {
-        match bound_of_row(tb, i) {
-            Bound::Found { w, rounds: k } => {
-                if wide(tb.d[i]) < wide(w) + wide(tb.m[i]) {
-                    return unplanned(22, i);
-                }
-                r[i] = w;
-                u[i] = promotion_time(tb.d[i], w, tb.m[i]);
-                rounds[i] = k;
-                i += 1;
+// A table of at most sixteen rows, each with 1 ≤ C ≤ D ≤ T.
+#[derive(Clone, Copy)]
+pub struct SoundTable {
+    pub table: Table,
+    ghost few: { table.n ≤ 16 },
+    ghost sound: { Sound table table.n },
+}
+
+impl SoundTable {
+    // Its plan: rows in order, 10 and then 22 in each.
+    pub fn plan(self) -> Result<Plan, Refused>
+        ensures { result ≡ planning_of (plan_rows [] 0 (rows_of self.table)) }
+    {
+        let tb = self.table;
+        let mut r = [0u16; 16];
+        let mut u = [0u16; 16];
+        let mut rounds = [0u16; 16];
+        for i in 0..tb.n {
+            let bound = self.row_bound(i)?;
+            r[i] = bound.r;
+            u[i] = tb.d[i] - bound.r - tb.m[i];
+            rounds[i] = bound.rounds;
+        }
+        Ok(Plan { r, u, rounds })
+    }
+
+    // The bound of row i, which leaves its margin; or 10, then 22.
+    fn row_bound(self, i: usize) -> Result<Bound, Refused>
+        requires { i < self.table.n }
+        ensures { result ≡ row_bound self.table i }
+    {
+        let tb = self.table;
+        let bound = self.bound_of_row(i).ok_or(Refused {
+            why: Refusal::PassesD,
+            row: i,
+        })?;
+        if u32::from(tb.d[i]) < u32::from(bound.r) + u32::from(tb.m[i]) {
+            return Err(Refused {
+                why: Refusal::RMOverD,
+                row: i,
+            });
+        }
+        Ok(bound)
+    }
+
+    // The iteration of row i, from w = C, until its value repeats; nothing where it passes D. A round is an evaluation of f.
+    fn bound_of_row(self, i: usize) -> Option<Bound>
+        requires { i < self.table.n }
+        ensures { result ≡ bound_of (response (above_of self.table i) (table_row self.table i)) }
+    {
+        let d = u64::from(self.table.d[i]);
+        let c = u64::from(self.table.c[i]);
+        let mut w = c;
+        let mut rounds: u16 = 0;
+        loop {
+            if d < w {
+                break None;
             }
-            Bound::PassesD => {
-                return unplanned(10, i);
+            rounds += 1;
+            let v = c + self.demand(i, w);
+            if v == w {
+                let r = w as u16;
+                break Some(Bound { r, rounds });
             }
+            w = v;
         }
     }
-    let plan = Plan { r, u, rounds };
-    Planning {
-        verdict: Checked::Passed,
-        plan,
-    }
-}
 
-// A refused table's answer.
-pub fn unplanned(number: u8, row: usize) -> Planning
-    ensures { result ≡ refused_planning number row }
-{
-    let zero = [0u16; 16];
-    let plan = Plan {
-        r: zero,
-        u: zero,
-        rounds: zero,
-    };
-    Planning {
-        verdict: Checked::Failed { number, row },
-        plan,
-    }
-}
-
-// U, from D, R and M.
-fn promotion_time(d: u16, bound: u16, margin: u16) -> u16
-    requires { bound + margin ≤ d }
-    ensures { result ≡ d - bound - margin }
-{
-    d - bound - margin
-}
-
-// The iteration of row i, from w = C, until its value repeats or passes D; a round is an evaluation of f.
-fn bound_of_row(tb: Table, i: usize) -> Bound
-    requires { (i < 16) × Sound tb (suc i) }
-    ensures { result ≡ bound_of (response (above_of tb i) (table_row tb i)) }
-{
-    let d = wide(tb.d[i]);
-    let c = wide(tb.c[i]);
-    let mut w = c;
-    let mut rounds: u16 = 0;
-    let out = loop {
-        if d < w {
-            break Bound::PassesD;
+    // What the rows above row i ask at most of w ticks: the sum of ceil(w / T) * C.
+    fn demand(self, i: usize, w: u64) -> u64
+        requires { (i ≤ self.table.n) × (w < 65536) }
+        ensures { (result ≡ demand_of (above_of self.table i) w) × (result ≤ i * (65535 * 65535)) }
+    {
+        let mut sum: u64 = 0;
+        for j in 0..i {
+            let period = u64::from(self.table.t[j]);
+            sum = (w + (period - 1)) / period * u64::from(self.table.c[j]) + sum;
         }
-        rounds += 1;
-        let v = c + demand(tb, i, w);
-        if v == w {
-            break Bound::Found {
-                w: w as u16,
-                rounds,
-            };
-        }
-        w = v;
-    };
-    out
-}
-
-// What the rows above row i ask at most of w ticks: the sum of ceil(w / T) * C.
-fn demand(tb: Table, i: usize, w: u64) -> u64
-    requires { (i ≤ 16) × (w < 65536) × Sound tb i }
-    ensures { (result ≡ demand_of (above_of tb i) w) × (result ≤ i * (65535 * 65535)) }
-{
-    let c = tb.c;
-    let t = tb.t;
-    let mut sum: u64 = 0;
-    let mut j: usize = 0;
-    while j < i {
-        let period = wide(t[j]);
-        sum = (w + (period - 1)) / period * wide(c[j]) + sum;
-        j += 1;
+        sum
     }
-    sum
-}
-
-// A number of 16 bits as one of 64.
-fn wide(x: u16) -> u64
-    ensures { (result ≡ x) × (result < 65536) }
-{
-    x as u64
 }

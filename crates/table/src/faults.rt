@@ -3,51 +3,39 @@ ghost use Rattle.std.specs.Prelude.{◌≡◌, ◌||◌, [], ◌≤◌, ◌<◌,
 ghost use Rattle.rules.specs.Rows.{used};
 ghost use Rattle.rules.specs.File.{fields_fault};
 ghost use Rattle.table.specs.Memory.{table_row, above_of, fields_of};
-ghost use Rattle.table.specs.Answers.{checked_of, field_checked, row_checked};
+ghost use Rattle.table.specs.Answers.{field_checked, row_checked, rows_pass};
 
-use crate::scan::FileRows;
-use crate::{Checked, Table, form};
+use crate::row::FileRows;
+use crate::{Refused, Table, form};
+use refusal::Refusal;
 
 // Rows in order, 6 to 9 in each, then 21.
-pub fn rows_check(rows: FileRows) -> Checked
-    requires { rows.table.n ≤ 16 }
-    ensures { result ≡ checked_of (fields_fault rows.table.n [] 0 (fields_of rows)) }
+pub fn rows_check(rows: FileRows) -> Result<(), Refused>
+    ensures { result ≡ rows_pass (fields_fault rows.table.n [] 0 (fields_of rows)) }
 {
-    let tb = rows.table;
-    let mut i: usize = 0;
-    while i < tb.n {
-        match field_check(rows, i) {
-            Checked::Passed => {
-                i += 1;
-            }
-            Checked::Failed { number, row } => {
-                return Checked::Failed { number, row };
-            }
+    for i in 0..rows.table.n {
+        if let Err(why) = field_check(rows, i) {
+            return Err(Refused { why, row: i });
         }
     }
-    Checked::Passed
+    Ok(())
 }
 
-// 6 to 9 and 21 in the row at position i.
-fn field_check(rows: FileRows, i: usize) -> Checked
+// 6 to 9 and 21 in the row at position i. That i < 16 stands in each contract here: a type of a table with an index would be no plainer,
+// since each turn of the loop would build it, and each column be read through it.
+fn field_check(rows: FileRows, i: usize) -> Result<(), Refusal>
     requires { i < 16 }
     ensures { result ≡ field_checked rows i }
 {
-    let tb = rows.table;
-    match row_check(tb, i) {
-        Checked::Failed { number, row } => Checked::Failed { number, row },
-        Checked::Passed => {
-            if (rows.tag[i] == form::MARGIN_TAG) & (tb.m[i] == 0) {
-                Checked::Failed { number: 21, row: i }
-            } else {
-                Checked::Passed
-            }
-        }
+    row_check(rows.table, i)?;
+    if rows.tag[i] == form::MARGIN_TAG && rows.table.m[i] == 0 {
+        return Err(Refusal::MZero);
     }
+    Ok(())
 }
 
 // 6 to 9 in the row at position i.
-fn row_check(tb: Table, i: usize) -> Checked
+fn row_check(tb: Table, i: usize) -> Result<(), Refusal>
     requires { i < 16 }
     ensures { result ≡ row_checked tb i }
 {
@@ -55,18 +43,18 @@ fn row_check(tb: Table, i: usize) -> Checked
     let d = tb.d[i];
     let t = tb.t[i];
     if c == 0 {
-        return Checked::Failed { number: 6, row: i };
+        return Err(Refusal::CZero);
     }
     if d < c {
-        return Checked::Failed { number: 7, row: i };
+        return Err(Refusal::COverD);
     }
     if t < d {
-        return Checked::Failed { number: 8, row: i };
+        return Err(Refusal::DOverT);
     }
     if bad_rank(tb, i) {
-        return Checked::Failed { number: 9, row: i };
+        return Err(Refusal::BadRank);
     }
-    Checked::Passed
+    Ok(())
 }
 
 // The rank is n or above, or used by an earlier row.
@@ -75,31 +63,5 @@ fn bad_rank(tb: Table, i: usize) -> bool
     ensures { result ≡ (leb tb.n (table_row tb i).rank || used (table_row tb i).rank (above_of tb i)) }
 {
     let rank = tb.rank[i];
-    if tb.n <= wide(rank) {
-        true
-    } else {
-        rank_used(tb, rank, i)
-    }
-}
-
-// A byte as an index.
-fn wide(x: u8) -> usize
-    ensures { result ≡ x }
-{
-    x as usize
-}
-
-// One of the rows above row i has this rank.
-fn rank_used(tb: Table, rank: u8, i: usize) -> bool
-    requires { i ≤ 16 }
-    ensures { result ≡ used rank (above_of tb i) }
-{
-    let mut j = i;
-    while 0 < j {
-        j -= 1;
-        if tb.rank[j] == rank {
-            return true;
-        }
-    }
-    false
+    tb.n <= usize::from(rank) || tb.rank[..i].contains(&rank)
 }

@@ -1,103 +1,54 @@
 // The scan of a table file: its fields one after the other, to the end field; the rows that it holds; and the row that a refusal shows.
 ghost use Rattle.std.specs.Prelude.{◌≡◌, suc, ◌+◌, ◌≤◌, ◌<◌, length, drop};
-ghost use Rattle.rules.specs.File.{field_of, row_of, scan, size_of, table_length};
+ghost use Rattle.rules.specs.File.{field_of, field_rows, row_of, scan, size_of, table_length};
 ghost use Rattle.wire.specs.Field.{field_size, length_of};
-ghost use Rattle.table.specs.Memory.{file_rows};
+ghost use Rattle.table.specs.Memory.{fields_of, table_of};
 ghost use Rattle.table.specs.Walk.{RowFields, fields_in, tag_at};
-ghost use Rattle.table.specs.Answers.{file_row, is_row_tag, next_field, row_refusal, scanned_of};
+ghost use Rattle.table.specs.Answers.{field_in, is_row_tag, next_field, row_refusal, scanned_of};
 
-use crate::{FileRefusal, Table, form};
-use wire::{FieldCheck, ValueLength};
+use crate::row::{FileRow, FileRows, Row};
+use crate::{FileRefusal, Refused, Table, form};
+use refusal::Refusal;
+use wire::Part;
 
-// The field at the start of a file's rest: a row's, with its size, or the end's; of a bad one, the number and how many bytes are shown.
-#[derive(Drop)]
-pub enum TableField {
-    Row { size: usize },
-    End,
-    Bad { number: u8, size: usize },
-}
-
-// A file scanned to its end: how many rows it holds, or the number and the part that is shown.
-#[derive(Drop)]
-pub enum Scanned {
-    Whole {
-        n: usize,
-    },
-    Broken {
-        number: u8,
-        from: usize,
-        size: usize,
-    },
-}
-
-// A row as its field has it: M is 0 where the tag has none.
-#[derive(Drop)]
-pub struct FileRow {
-    pub tag: u8,
-    pub c: u16,
-    pub d: u16,
-    pub t: u16,
-    pub rank: u8,
-    pub m: u16,
-}
-
-// The rows of a file, and the tags of their fields; 0 where there is no row.
-#[derive(Clone, Copy)]
-pub struct FileRows {
-    pub table: Table,
-    pub tag: [u8; 16],
-}
-
-// The scan of a whole file: checks 1 to 5.
-pub fn scan_fields(s: &[u8]) -> Scanned
+// The scan of a whole file, which comes to how many rows it has: checks 1 to 5. Where a field starts is known only from the one before
+// it, so at and n go along by hand.
+pub fn scan_fields(s: &[u8]) -> Result<usize, FileRefusal>
     ensures { result ≡ scanned_of (scan 16 0 s.now) }
 {
     let mut at: usize = 0;
     let mut n: usize = 0;
-    let out = loop {
-        match field_of(&s[at..], n == 16) {
-            TableField::Row { size } => {
-                at += size;
-                n += 1;
-            }
-            TableField::End => {
-                if s.len() - at == form::END_BYTES {
-                    break Scanned::Whole { n };
-                } else {
-                    break Scanned::Broken {
-                        number: 4,
-                        from: at + form::END_BYTES,
-                        size: s.len() - at - form::END_BYTES,
-                    };
-                }
-            }
-            TableField::Bad { number, size } => {
-                break Scanned::Broken {
-                    number,
-                    from: at,
-                    size,
-                };
-            }
-        }
-    };
-    out
+    while let Some(size) = field_of(&s[at..], at, n == 16)? {
+        at += size;
+        n += 1;
+    }
+    let end = at + form::END_BYTES;
+    if end < s.len() {
+        return Err(shown(Refusal::AfterEnd, end, s.len() - end));
+    }
+    Ok(n)
 }
 
-// The field at the start of s; full: sixteen rows came before it.
-fn field_of(s: &[u8], full: bool) -> TableField
-    ensures { result ≡ next_field full s.now }
+// The field at the start of s, which stands at a place of the file: of a row, its size; of the end, nothing. full: sixteen rows came before it.
+fn field_of(s: &[u8], at: usize, full: bool) -> Result<Option<usize>, FileRefusal>
+    ensures { result ≡ next_field full at s.now }
 {
     let tag = wire::tag_of(s);
     let row = is_row(tag);
-    match wire::check_field(s, value_length(tag), row & full) {
-        FieldCheck::Bad { number, size } => TableField::Bad { number, size },
-        FieldCheck::Whole { size } => {
-            if row {
-                TableField::Row { size }
-            } else {
-                TableField::End
-            }
-        }
+    match wire::check_field(s, value_length(tag), row && full) {
+        Ok(size) => Ok(row.then_some(size)),
+        Err(bad) => Err(shown(bad.why, at, bad.size)),
+    }
+}
+
+// A refusal that is about no row, with the part that it shows.
+fn shown(why: Refusal, from: usize, size: usize) -> FileRefusal
+    ensures { result ≡ record { why = why; row = None; part = record { from = from; size = size } } }
+{
+    FileRefusal {
+        why,
+        row: None,
+        part: Part { from, size },
     }
 }
 
@@ -105,72 +56,97 @@ fn field_of(s: &[u8], full: bool) -> TableField
 fn is_row(tag: u8) -> bool
     ensures { result ≡ is_row_tag tag }
 {
-    (tag == form::ROW_TAG) | (tag == form::MARGIN_TAG)
+    tag == form::ROW_TAG || tag == form::MARGIN_TAG
 }
 
 // How long the value of a table tag is.
-fn value_length(tag: u8) -> ValueLength
+fn value_length(tag: u8) -> Option<u16>
     ensures { length_of result ≡ table_length tag }
 {
-    if tag == form::ROW_TAG {
-        ValueLength::Known(form::ROW_LENGTH)
-    } else if tag == form::MARGIN_TAG {
-        ValueLength::Known(form::MARGIN_LENGTH)
-    } else if tag == form::END_TAG {
-        ValueLength::Known(form::END_LENGTH)
-    } else {
-        ValueLength::Unknown
+    match tag {
+        form::ROW_TAG => Some(form::ROW_LENGTH),
+        form::MARGIN_TAG => Some(form::MARGIN_LENGTH),
+        form::END_TAG => Some(form::END_LENGTH),
+        _ => None,
     }
 }
 
-// A file's first n rows.
-pub fn rows_at(s: &[u8], n: usize) -> FileRows
-    requires { (n ≤ 16) × RowFields s.now n }
-    ensures { result ≡ file_rows (fields_in s.now n) }
-{
-    let mut tag = [0u8; 16];
-    let mut c = [0u16; 16];
-    let mut d = [0u16; 16];
-    let mut t = [0u16; 16];
-    let mut rank = [0u8; 16];
-    let mut m = [0u16; 16];
-    let mut at: usize = 0;
-    let mut i: usize = 0;
-    while i < n {
-        let row = row_at(s, at);
-        tag[i] = row.tag;
-        c[i] = row.c;
-        d[i] = row.d;
-        t[i] = row.t;
-        rank[i] = row.rank;
-        m[i] = row.m;
-        at += field_size(s, at);
-        i += 1;
+// A file that is scanned: its first n fields are of rows, one after the other.
+#[derive(Clone, Copy)]
+pub struct ScannedFile<'a> {
+    pub bytes: &'a [u8],
+    pub n: usize,
+    ghost few: { n ≤ 16 },
+    ghost stand: { RowFields bytes.now n },
+}
+
+impl ScannedFile<'_> {
+    // Its rows.
+    pub fn rows(self) -> FileRows
+        ensures fields { fields_of result ≡ fields_in self.entry.bytes.now self.entry.n }
+        ensures table { result.table ≡ table_of (field_rows (fields_in self.entry.bytes.now self.entry.n)) }
+    {
+        let mut tag = [0u8; 16];
+        let mut c = [0u16; 16];
+        let mut d = [0u16; 16];
+        let mut t = [0u16; 16];
+        let mut rank = [0u8; 16];
+        let mut m = [0u16; 16];
+        let mut at: usize = 0;
+        for i in 0..self.n {
+            let field = file_row_at(self.bytes, at);
+            tag[i] = field.tag;
+            c[i] = field.row.c;
+            d[i] = field.row.d;
+            t[i] = field.row.t;
+            rank[i] = field.row.rank;
+            m[i] = field.row.m;
+            at += field_size(self.bytes, at);
+        }
+        let table = Table {
+            n: self.n,
+            c,
+            d,
+            t,
+            rank,
+            m,
+        };
+        FileRows { table, tag }
     }
-    let table = Table {
-        n,
-        c,
-        d,
-        t,
-        rank,
-        m,
-    };
-    FileRows { table, tag }
+
+    // The refusal of a row, which shows the row's whole field: each field starts where the one before it ends.
+    pub fn refusal(self, x: Refused) -> FileRefusal
+        requires { x.row < self.n }
+        ensures { result ≡ row_refusal self.entry.bytes.now x }
+    {
+        let mut at: usize = 0;
+        for _ in 0..x.row {
+            at += field_size(self.bytes, at);
+        }
+        FileRefusal {
+            why: x.why,
+            row: Some(x.row as u8 + 1),
+            part: Part {
+                from: at,
+                size: field_size(self.bytes, at),
+            },
+        }
+    }
 }
 
 // The row whose field stands at a place.
-fn row_at(s: &[u8], at: usize) -> FileRow
+fn file_row_at(s: &[u8], at: usize) -> FileRow
     requires { at + size_of (tag_at s.now at) ≤ length s.now }
-    ensures { result ≡ file_row (field_of (drop at s.now)) }
+    ensures { field_in result ≡ field_of (drop at s.now) }
 {
-    FileRow {
-        tag: s[at],
+    let row = Row {
         c: wire::get_u16(s, at + 3),
         d: wire::get_u16(s, at + 5),
         t: wire::get_u16(s, at + 7),
         rank: s[at + 9],
         m: margin_at(s, at),
-    }
+    };
+    FileRow { tag: s[at], row }
 }
 
 // The margin of that row.
@@ -185,29 +161,10 @@ fn margin_at(s: &[u8], at: usize) -> u16
     }
 }
 
-// A refusal of the row at a position, which shows the row's whole field: each field starts where the one before it ends.
-pub fn row_refusal(s: &[u8], number: u8, row: usize) -> FileRefusal
-    requires { (row < 16) × RowFields s.now (suc row) }
-    ensures { result ≡ row_refusal s.now number row }
-{
-    let mut at: usize = 0;
-    let mut k: usize = 0;
-    while k < row {
-        at += field_size(s, at);
-        k += 1;
-    }
-    FileRefusal {
-        number,
-        row: row as u8 + 1,
-        from: at,
-        size: field_size(s, at),
-    }
-}
-
 // The size of the field at a place, by its header.
 fn field_size(s: &[u8], at: usize) -> usize
     requires { at + 3 ≤ length s.now }
     ensures { result ≡ field_size (drop at s.now) }
 {
-    3 + wire::get_u16(s, at + 1) as usize
+    3 + usize::from(wire::get_u16(s, at + 1))
 }

@@ -1,39 +1,35 @@
 // The bytes of a table's file, put at the front of an output.
-ghost use Rattle.std.specs.Prelude.{◌≡◌, ◌+◌, ◌≤◌, length};
+ghost use Rattle.std.specs.Prelude.{◌≡◌, ◌+◌, ◌≤◌, ◌<◌, length, sum_by};
 ghost use Rattle.std.proofs.lemmas.List.Edits.{sets};
 ghost use Rattle.rules.specs.File.{row_bytes, file_bytes, put};
-ghost use Rattle.table.specs.Memory.{header_bytes, numbers_bytes, row_size, rows_bytes, rows_of};
-ghost use Rattle.table.specs.Answers.{written_of, output_after};
+ghost use Rattle.table.specs.Memory.{header_bytes, numbers_bytes, row_size, rows_bytes, rows_of, table_row};
+ghost use Rattle.table.specs.Answers.{written_of, output_after, row_in};
 
-use crate::{Table, Written, form};
+use crate::row::Row;
+use crate::{Table, form};
+use refusal::Refusal;
 
 // The whole file, where it fits: 19 where it does not.
-pub fn put_table(tb: Table, out: &mut [u8]) -> Written
+pub fn put_table(tb: Table, out: &mut [u8]) -> Result<usize, Refusal>
     requires { tb.n ≤ 16 }
     ensures value { result ≡ written_of (put (file_bytes (rows_of tb)) out.old) }
     ensures out_after { out.new ≡ output_after out.old (put (file_bytes (rows_of tb)) out.old) }
 {
-    let size = file_size(tb);
+    let size = form::END_BYTES + row_sizes(&tb.m[..tb.n]);
     if out.len() < size {
-        return Written::Refused(19);
+        return Err(Refusal::SmallOutput);
     }
     let end = put_rows(tb, out);
     put_header(out, end, form::END_TAG, form::END_LENGTH);
-    Written::Length(size)
+    Ok(size)
 }
 
-// How long the file is.
-fn file_size(tb: Table) -> usize
-    requires { tb.n ≤ 16 }
-    ensures { result ≡ length (file_bytes (rows_of tb)) }
+// How long the fields of rows with these margins are.
+fn row_sizes(margins: &[u16]) -> usize
+    requires { length margins.now ≤ 16 }
+    ensures { result ≡ sum_by row_size margins.now }
 {
-    let mut size = form::END_BYTES;
-    let mut i: usize = 0;
-    while i < tb.n {
-        size += row_size(tb.m[i]);
-        i += 1;
-    }
-    size
+    margins.iter().map(|m| row_size(*m)).sum()
 }
 
 // How long the field of a row with this margin is.
@@ -54,27 +50,40 @@ fn put_rows(tb: Table, out: &mut [u8]) -> usize
     ensures out_after { out.new ≡ sets out.old 0 (rows_bytes (rows_of tb)) }
 {
     let mut at: usize = 0;
-    let mut i: usize = 0;
-    while i < tb.n {
-        put_row(out, at, tb.c[i], tb.d[i], tb.t[i], tb.rank[i], tb.m[i]);
-        at += row_size(tb.m[i]);
-        i += 1;
+    for i in 0..tb.n {
+        let row = row_at(tb, i);
+        put_row(row, out, at);
+        at += row_size(row.m);
     }
     at
 }
 
-// One row's field at a place: tag 01 where the margin is 0.
-fn put_row(out: &mut [u8], at: usize, c: u16, d: u16, t: u16, rank: u8, m: u16)
-    requires { at + row_size m ≤ length out.old }
-    ensures { out.new ≡ sets out.old at (row_bytes (record { C = c; D = d; T = t; rank = rank; M = m })) }
+// The row at a position.
+fn row_at(tb: Table, i: usize) -> Row
+    requires { i < 16 }
+    ensures { row_in result ≡ table_row tb i }
 {
-    if m == 0 {
+    Row {
+        c: tb.c[i],
+        d: tb.d[i],
+        t: tb.t[i],
+        rank: tb.rank[i],
+        m: tb.m[i],
+    }
+}
+
+// One row's field at a place: tag 01 where the margin is 0.
+fn put_row(row: Row, out: &mut [u8], at: usize)
+    requires { at + row_size row.m ≤ length out.old }
+    ensures { out.new ≡ sets out.old at (row_bytes (row_in row)) }
+{
+    if row.m == 0 {
         put_header(out, at, form::ROW_TAG, form::ROW_LENGTH);
-        put_numbers(out, at + form::HEADER_BYTES, c, d, t, rank);
+        put_numbers(row, out, at + form::HEADER_BYTES);
     } else {
         put_header(out, at, form::MARGIN_TAG, form::MARGIN_LENGTH);
-        put_numbers(out, at + form::HEADER_BYTES, c, d, t, rank);
-        wire::put_u16(out, at + form::ROW_BYTES, m);
+        put_numbers(row, out, at + form::HEADER_BYTES);
+        wire::put_u16(out, at + form::ROW_BYTES, row.m);
     }
 }
 
@@ -88,12 +97,12 @@ fn put_header(out: &mut [u8], at: usize, tag: u8, bytes: u16)
 }
 
 // The numbers that both forms of a row's field have, at a place.
-fn put_numbers(out: &mut [u8], at: usize, c: u16, d: u16, t: u16, rank: u8)
+fn put_numbers(row: Row, out: &mut [u8], at: usize)
     requires { at + 7 ≤ length out.old }
-    ensures { out.new ≡ sets out.old at (numbers_bytes c d t rank) }
+    ensures { out.new ≡ sets out.old at (numbers_bytes (row_in row)) }
 {
-    wire::put_u16(out, at, c);
-    wire::put_u16(out, at + 2, d);
-    wire::put_u16(out, at + 4, t);
-    wire::put_u8(out, at + 6, rank);
+    wire::put_u16(out, at, row.c);
+    wire::put_u16(out, at + 2, row.d);
+    wire::put_u16(out, at + 4, row.t);
+    wire::put_u8(out, at + 6, row.rank);
 }

@@ -8,22 +8,15 @@ ghost use Rattle.std.specs.Prelude.{◌≡◌, [], ◌∷◌, ◌+◌, ◌<◌, 
 ghost use Rattle.std.proofs.lemmas.List.Edits.{sets};
 ghost use Rattle.rules.specs.Fields.{word, two};
 
-pub use field::{FieldCheck, ValueLength, check_field, tag_of};
-pub use view::{Place, shown};
+pub use field::{BadField, check_field, tag_of};
+pub use view::{Part, Place, shown};
 
 // The number whose two bytes stand at a place.
 pub fn get_u16(s: &[u8], at: usize) -> u16
     requires { at + 2 ≤ length s.now }
     ensures { result ≡ word s.now at }
 {
-    wide(s[at]) * 256 + wide(s[at + 1])
-}
-
-// A byte as a number of two.
-fn wide(x: u8) -> u16
-    ensures { (result ≡ x) × (result < 256) }
-{
-    x as u16
+    u16::from_be_bytes([s[at], s[at + 1]])
 }
 
 // Puts a byte at a place; every other byte stays.
@@ -39,6 +32,7 @@ pub fn put_u16(s: &mut [u8], at: usize, x: u16)
     requires { at + 2 ≤ length s.old }
     ensures { s.new ≡ sets s.old at (two x) }
 {
-    s[at] = (x / 256) as u8;
-    s[at + 1] = (x % 256) as u8;
+    let [high, low] = x.to_be_bytes();
+    s[at] = high;
+    s[at + 1] = low;
 }

@@ -1,18 +1,17 @@
--- `decode` meets its contract: each way out is a case of the definition. Assumes nothing.
-use Rattle.std.proofs.Common.{sym, ◌∙◌, eq-eqb, ne_eqb}
+-- `decode` meets its contract: what is read as a block has its length, and is an image or not. Assumes nothing.
+use Rattle.std.proofs.Common.{◌≡◌, length, refl, arith, eq-eqb}
+use Rattle.block.specs.Places.{block_bytes}
 use Rattle.block.specs.Tests.{decoded_of}
 use Rattle.block.proofs.decode.Goals as goal
 
-pub returns-then-b-ne-BLOCK_BYTES : goal.returns-then-b-ne-BLOCK_BYTES
+pub returns-then-not-image_good : goal.returns-then-not-image_good
 unfolding decoded_of
-returns-then-b-ne-BLOCK_BYTES c = rw (ne_eqb _ _ c.if-b-ne-BLOCK_BYTES.true) c.refused_block.ensures
-
-pub returns-then-image_good : goal.returns-then-image_good
-unfolding decoded_of
-returns-then-image_good c =
-    rw (eq-eqb _ _ c.if-b-ne-BLOCK_BYTES.false, sym c.image_good.ensures ∙ c.if-image_good.true, c.state_at-state.ensures, c.rows_at-rows.ensures)
+returns-then-not-image_good c =
+    let long : length c.args.b.now ≡ block_bytes = omega (arith, c.in_ok-block.ensures.variant.0 refl) in
+    rw (eq-eqb _ _ long, ← c.in_ok-block.ensures.cases.same, ← c.image_good.ensures, c.if-not-image_good.true)
 
 pub returns : goal.returns
 unfolding decoded_of
 returns c =
-    rw (eq-eqb _ _ c.if-b-ne-BLOCK_BYTES.false, sym c.image_good.ensures ∙ c.if-image_good.false) c.refused_block-2.ensures
+    let long : length c.args.b.now ≡ block_bytes = omega (arith, c.in_ok-block.ensures.variant.0 refl) in
+    rw (eq-eqb _ _ long, ← c.in_ok-block.ensures.cases.same, ← c.image_good.ensures, c.if-not-image_good.false, c.rows_at.ensures, c.state_at.ensures)

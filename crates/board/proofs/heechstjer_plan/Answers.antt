@@ -1,29 +1,30 @@
--- `board::heechstjer_plan` meets its contract on each way through it. Assumes nothing.
-use mathlib.Core.Path.{ap₂, ◌∙◌}
+-- `board::heechstjer_plan` meets its contract, by what is read of the file. Assumes nothing.
+use Rattle.std.proofs.Common.{rules, sym, ap, ap₂, ◌∙◌, Ok, Err}
 use Rattle.block.specs.Layout.{image_of}
-use Rattle.board.proofs.Ways.{encoded_whole, halves, planned_way, refused_way, short_way}
+use Rattle.board.proofs.AsRead.{encoded_whole, planned_as_read}
 use Rattle.board.proofs.heechstjer_plan.Goals as goal
 
-pub returns-then-block-ne-BLOCK_BYTES : goal.returns-then-block-ne-BLOCK_BYTES
-returns-then-block-ne-BLOCK_BYTES c =
+pub returns-in-Err-clause-value : goal.returns-in-Err-clause-value
+returns-in-Err-clause-value c =
     let a = c.args in
-    let w = halves (short_way a.block.now a.table.now c.if-block-ne-BLOCK_BYTES.true) in
-    record { value = c.refused_plan.ensures ∙ w.0; block_after = w.1 }
+    c.refused_plan-in-Err.ensures ∙ sym (ap (λ o. o.answer) (planned_as_read a.block.now a.table.now c.if-block-ne-BLOCK_BYTES.false (Err _) (sym c.in-Err.is ∙ c.read_table.ensures)))
 
-pub returns-in-Refused : goal.returns-in-Refused
-returns-in-Refused c =
+pub returns-in-Err-clause-block_after : goal.returns-in-Err-clause-block_after
+returns-in-Err-clause-block_after c =
     let a = c.args in
-    let w = halves (refused_way a.block.now a.table.now c.if-block-ne-BLOCK_BYTES.false c.read_table-reading.result c.read_table-reading.ensures _ c.in-Refused.is) in
-    record { value = c.refused_plan-in-Refused.ensures ∙ w.0; block_after = w.1 }
+    sym (ap (λ o. o.block) (planned_as_read a.block.now a.table.now c.if-block-ne-BLOCK_BYTES.false (Err _) (sym c.in-Err.is ∙ c.read_table.ensures)))
 
-pub returns-in-Accepted : goal.returns-in-Accepted
-returns-in-Accepted c =
+pub returns-in-Ok-clause-value : goal.returns-in-Ok-clause-value
+returns-in-Ok-clause-value c =
     let a = c.args in
-    let w = halves (planned_way a.block.now a.table.now c.if-block-ne-BLOCK_BYTES.false c.read_table-reading.result c.read_table-reading.ensures c.in-Accepted.is) in
-    let rows = c.planned_rows in
-    let state = c.fresh_state-state in record {
-      value = w.0;
-      block_after = c.encode.ensures ∙ encoded_whole a.block.now rows.result state.result c.if-block-ne-BLOCK_BYTES.false
-          ∙ ap₂ image_of rows.ensures state.ensures
-          ∙ w.1;
-    }
+    let w = planned_as_read a.block.now a.table.now c.if-block-ne-BLOCK_BYTES.false (Ok _) (sym c.in-Ok.is ∙ c.read_table.ensures) in
+    rw w (search rules)
+
+pub returns-in-Ok-clause-block_after : goal.returns-in-Ok-clause-block_after
+returns-in-Ok-clause-block_after c =
+    let a = c.args in
+    let w = planned_as_read a.block.now a.table.now c.if-block-ne-BLOCK_BYTES.false (Ok _) (sym c.in-Ok.is ∙ c.read_table.ensures) in
+    c.encode.ensures
+    ∙ encoded_whole a.block.now _ _ c.if-block-ne-BLOCK_BYTES.false
+    ∙ ap₂ image_of c.planned_rows.ensures c.fresh_state-fresh.ensures
+    ∙ sym (ap (λ o. o.block) w)

@@ -1,16 +1,10 @@
 -- Each event lies ahead of its place.
-use Rattle.std.proofs.Common.{arith, refl}
-use Rattle.event.proofs.Ahead.{ahead}
+use Rattle.std.proofs.Common.{Ok, arith, ap}
+use Rattle.event.proofs.Ahead.{next_ahead}
 use Rattle.run.proofs.run_events.Goals as goal
 
-pub loop-set-smaller-in-Tick : goal.loop-set-smaller-in-Tick
-loop-set-smaller-in-Tick g c = omega (arith, ahead _ _ c.loop-set.invariant c.in-Tick.ensures refl)
+pub loop-event-smaller : goal.loop-event-smaller
+loop-event-smaller g c = omega (arith, next_ahead _ _ c.in-Ok-Some.event c.loop-event.invariant c.in-Ok-Some.ensures (ap Ok c.in-Ok-Some.field-0-is))
 
-pub loop-set-preserved-in-Tick : goal.loop-set-preserved-in-Tick
-loop-set-preserved-in-Tick g c = omega (arith, ahead _ _ c.loop-set.invariant c.in-Tick.ensures refl)
-
-pub loop-set-smaller : goal.loop-set-smaller
-loop-set-smaller g c = omega (arith, ahead _ _ c.loop-set.invariant c.in-Offer.ensures refl)
-
-pub loop-set-preserved : goal.loop-set-preserved
-loop-set-preserved g c = omega (arith, ahead _ _ c.loop-set.invariant c.in-Offer.ensures refl)
+pub loop-event-preserved : goal.loop-event-preserved
+loop-event-preserved g c = omega (arith, next_ahead _ _ c.in-Ok-Some.event c.loop-event.invariant c.in-Ok-Some.ensures (ap Ok c.in-Ok-Some.field-0-is))

@@ -2,8 +2,8 @@
 use Rattle.std.proofs.Common.{◌-◌, ◌≤◌, length}
 use Rattle.run.proofs.run_events.Given as goal
 
-abbrev pub invariant-loop-set : goal.invariant-loop-set
-invariant-loop-set g l = l.at ≤ length l.events
+abbrev pub invariant-loop-event : goal.invariant-loop-event
+invariant-loop-event g l = l.at ≤ length l.input.events.now
 
-abbrev pub decreases-loop-set : goal.decreases-loop-set
-decreases-loop-set g l = length l.events - l.at
+abbrev pub decreases-loop-event : goal.decreases-loop-event
+decreases-loop-event g l = length l.input.events.now - l.at

@@ -1,23 +1,8 @@
--- `checks::free_good` meets its contract: what is together so far are the bytes passed. Assumes nothing.
-use Rattle.std.proofs.Common.{◌≡◌, ◌+◌, sym, refl, arith, rules}
-use Rattle.state.specs.Meaning.{entry}
+-- `checks::free_good` meets its contract. Assumes nothing.
+use Rattle.std.proofs.Common.{◌∙◌, arith}
 use Rattle.block.specs.Places.{reserved_at, reserved_bytes}
-use Rattle.block.specs.Tests.{free_good}
-use Rattle.block.proofs.Ors.{or_next, or_start}
+use Rattle.block.proofs.Ors.{or_part}
 use Rattle.block.proofs.checks.free_good.Goals as goal
 
-pub loop-i-init : goal.loop-i-init
-loop-i-init c = (search rules, search rules, sym (or_start _))
-
-pub loop-i-preserved : goal.loop-i-preserved
-loop-i-preserved c =
-    let l = c.loop-i in
-    let a = c.args in
-    (search rules, search rules, or_next (λ k. entry a.b.now (reserved_at + k)) l.i l.x _ l.invariant.2 refl)
-
 pub returns : goal.returns
-unfolding free_good
-returns c =
-    let l = c.loop-i in
-    let e : l.i ≡ reserved_bytes = omega arith in
-    rw (rw e at l.invariant.2)
+returns c = rw (c.all_bits.ensures ∙ or_part c.args.b.now reserved_at reserved_bytes (omega arith) (λ x. x))

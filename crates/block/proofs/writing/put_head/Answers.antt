@@ -7,4 +7,4 @@ use Rattle.block.proofs.writing.put_head.Goals as goal
 pub returns : goal.returns
 unfolding head_bytes
 returns c =
-    put_then (put_one c.put_u8.ensures) refl (put_then c.put_marks.ensures refl (put_then (put_one c.put_u8-2.ensures) refl c.put_numbers.ensures))
+    put_then (put_one refl) refl (put_then c.put_marks.ensures refl (put_then (put_one refl) refl c.put_numbers.ensures))

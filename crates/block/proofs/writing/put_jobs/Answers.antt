@@ -6,6 +6,4 @@ use Rattle.block.proofs.writing.put_jobs.Goals as goal
 
 pub returns : goal.returns
 unfolding jobs_bytes
-returns c =
-    put_then c.put16s.ensures (omega arith)
-    (put_to c.put32s.ensures (omega arith))
+returns c = put_then c.put_all.ensures (omega arith) (put_to c.put_all-2.ensures (omega arith))

@@ -4,5 +4,4 @@ use Rattle.block.proofs.Arrays.{put_one, put_then}
 use Rattle.block.proofs.writing.put_marks.Goals as goal
 
 pub returns : goal.returns
-returns c =
-    put_then (put_one c.put_u8.ensures) refl (put_one c.put_u8-2.ensures)
+returns c = put_then (put_one refl) refl (put_one refl)

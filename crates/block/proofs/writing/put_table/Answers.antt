@@ -6,8 +6,4 @@ use Rattle.block.proofs.writing.put_table.Goals as goal
 
 pub returns : goal.returns
 unfolding table_bytes
-returns c =
-    put_then c.put16s.ensures (omega arith)
-    (put_then c.put16s-2.ensures (omega arith)
-    (put_then c.put16s-3.ensures (omega arith)
-    (put_to c.put16s-4.ensures (omega arith))))
+returns c = put_then c.put_all.ensures (omega arith) (put_then c.put_all-2.ensures (omega arith) (put_then c.put_all-3.ensures (omega arith) (put_to c.put_all-4.ensures (omega arith))))

@@ -1,7 +1,5 @@
 -- `table::scan::scan_fields` meets its contract. The invariant: the scan of the whole file is n rows and the scan of what is left. The measure is how many fields may come. Assumes nothing.
-use Prim.Native.Nat.{◌-◌, ◌≤◌}
-use mathlib.Core.Path.{◌≡◌}
-use lib.ListN.{length, drop}
+use Rattle.std.proofs.Common.{◌≡◌, ◌-◌, ◌≤◌, length, drop}
 use Rattle.rules.specs.File.{scan}
 use Rattle.table.specs.Answers.{scanned_of}
 use Rattle.table.proofs.Fields.{after}
