@@ -40,7 +40,7 @@ pub enum Closing {
 
 // What a tick took as clear. unknown: release bits of rows above n (12). none_ran: the done flag, where no job ran (13).
 // not_ready: release bits of rows that are not rested, or whose job is still open after the closing (14).
-#[derive(Drop)]
+#[derive(Clone, Copy)]
 pub struct Notes {
     pub unknown: u16,
     pub none_ran: bool,
@@ -48,7 +48,7 @@ pub struct Notes {
 }
 
 // The answer to a tick: the clock as the tick found it, who runs, what closed, and the notes.
-#[derive(Drop)]
+#[derive(Clone, Copy)]
 pub struct Answer {
     pub clock: u32,
     pub runner: Runner,
@@ -57,7 +57,7 @@ pub struct Answer {
 }
 
 // A runner in numbers, as the C interface gives it: a number for each kind and band, and 0 where a number says nothing.
-#[derive(Default, Drop)]
+#[derive(Clone, Copy, Default)]
 pub struct RunnerNumbers {
     pub kind: u8,
     pub row: u8,
@@ -66,7 +66,7 @@ pub struct RunnerNumbers {
 }
 
 // A closing in numbers, as the C interface gives it: a number for each kind and how, and 0 where a number says nothing.
-#[derive(Default, Drop)]
+#[derive(Clone, Copy, Default)]
 pub struct ClosingNumbers {
     pub kind: u8,
     pub row: u8,
@@ -74,7 +74,7 @@ pub struct ClosingNumbers {
     pub ticket: u32,
 }
 
-// The row at k, counted from 1.
+// The row at k, counted from 1. No From, which could not ask that the row is below 16.
 pub fn row_number(k: usize) -> u8
     requires { k < 16 }
     ensures { result ≡ row_number k }

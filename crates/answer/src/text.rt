@@ -60,7 +60,7 @@ impl fmt::Display for Closing {
     }
 }
 
-// The row at k, counted from 1. What is printed has no `requires`, so k is any usize here, and the number may be 2^64.
+// The row at k, counted from 1. What is printed has no `requires`, so k is any usize here, and the number may be 2^64. As: u128 has no From<usize>.
 fn counted(k: usize) -> u128
     ensures { result ≡ row_number k }
 {

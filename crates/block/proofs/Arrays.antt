@@ -72,10 +72,10 @@ module _ (w : ℕ) where
   pub joined_long : (xs : List ℕ) (n : ℕ) → length xs ≡ n → length (joined (le_bytes w) xs) ≡ w * n
   joined_long xs n e = length_joined (le_bytes w) (wide w) xs ∙ ap (λ k. w * k) e
 
-  pub joined_bytes : (xs : List ℕ) → Bytes (joined (le_bytes w) xs)
+  pub joined_bytes : (xs : List ℕ) → ((i : ℕ) → entry xs i < 256 ^ w) → Bytes (joined (le_bytes w) xs)
   unfolding joined
-  joined_bytes [] = tt
-  joined_bytes (x ∷ xs) = both (le_bytes w x) (joined (le_bytes w) xs) (clean w x) (joined_bytes xs)
+  joined_bytes [] h = tt
+  joined_bytes (x ∷ xs) h = both (le_bytes w x) (joined (le_bytes w) xs) (clean w x (h 0)) (joined_bytes xs (λ i. h (suc i)))
 
   -- read back
 

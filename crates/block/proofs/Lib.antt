@@ -7,6 +7,7 @@ pub mod Ors
 pub mod Trip
 pub mod Whole
 pub mod Bits
+pub mod Last
 pub mod RankSets
 pub mod Tested
 pub mod Numbers

@@ -1,5 +1,5 @@
 -- Rows and a state that pass the tests have an image: they meet document 01's conditions, and what means nothing is 0. Assumes nothing.
-use Rattle.std.proofs.Common.{◌≡◌, ℕ, zero, suc, ◌+◌, ◌-◌, ◌%◌, ◌^◌, ◌<◌, ◌≤◌, Bool, true, false, cond, not, ◌&&◌, ◌||◌, eqb, ltb, sym, refl, ◌∙◌, inl, true≢false, le_refl, arith, ltb-false, ltb-true, le-ltb, lt-ltb, eq-eqb, ne_eqb, eqb-true}
+use Rattle.std.proofs.Common.{◌≡◌, ℕ, zero, suc, ◌+◌, ◌-◌, ◌%◌, ◌^◌, ◌<◌, ◌≤◌, Bool, true, false, cond, not, ◌&&◌, ◌||◌, eqb, ltb, sym, refl, ◌∙◌, inl, true≢false, le_refl, arith, ltb-true, le-ltb, lt-ltb, eq-eqb, ne_eqb, eqb-true, ltb-false}
 use native.Mathlib.Decide.{dec_lt}
 use Rattle.rules.specs.Station.{firm_of, nobody, row_at, rows_of}
 use Rattle.rules.specs.Tables.{RowOk}
@@ -9,13 +9,15 @@ use Rattle.rules.proofs.Facts.{FirmRan, FirstIs, Good, HasRun, LastRan, Live, Ru
 use Rattle.rules.proofs.Faults.{table_fault_iff}
 use Rattle.rules.proofs.ImageIs
 use Rattle.rules.proofs.Image.{Image}
+use Rattle.state.specs.declared.Last.{Last}
+use Rattle.state.specs.declared.Last.TheVariants as ran
 use Rattle.state.specs.declared.Rows.{Rows}
 use Rattle.state.specs.declared.State.{State}
 use Rattle.table.specs.Memory.{table_row}
-use Rattle.state.specs.Meaning.{Kept, age_at, entry, firm_at, firms_of, last_of, rows_from, slot_at, slots_of, station_of, wrapped}
+use Rattle.state.specs.Meaning.{Kept, LastBelow, age_at, entry, firm_at, firms_of, last_of, last_with, rows_from, slot_at, slots_of, station_of, wrapped}
 use Rattle.state.proofs.Bools.{or_yes}
 use Rattle.state.proofs.Positions.{length_rows, map_rows, rows_all}
-use Rattle.block.specs.Layout.{Long}
+use Rattle.block.specs.Layout.{Long, last_number}
 use Rattle.block.specs.Tests.{most_run}
 use Rattle.block.specs.Image.{Imaged}
 use Rattle.block.proofs.Bits.{in_known}
@@ -23,17 +25,21 @@ use Rattle.block.proofs.Entered.{entry_out, rows_hold, rows_run}
 use Rattle.block.proofs.Numbers.{FirmSays, HardSays, behind_next, firm_says, hard_says, stamp_quiet, stamp_young, to_runs, to_tickets}
 use Rattle.block.proofs.Ors.{or_none}
 use Rattle.block.proofs.RankSets.{set_once}
-use Rattle.block.proofs.Tested.{Checked, last_low, last_test}
+use Rattle.block.proofs.Tested.{Checked, last_test}
 use Rattle.block.proofs.Trip.{Fit}
 
 -- the last runner among the rows
-pub last_is : (s : State) (i : ℕ) → i < 16 → last_at (last_of s) i ≡ eqb i s.last
-last_is s i h = go (ltb s.last 16) refl (eqb s.last 16)
+pub last_is : (s : State) (i : ℕ) → i < 16 → last_at (last_of s) i ≡ eqb i (last_number s.last)
+last_is s i h = go s.last
   where
-    go : (a : Bool) → ltb s.last 16 ≡ a → (x : Bool) → last_at (cond a (row_at s.last) (cond x (firm_of (entry s.ticket 0)) nobody)) i ≡ eqb i s.last
-    go true e x = refl
-    go false e true = sym (ne_eqb i s.last (λ q. omega (arith, ltb-false s.last 16 e)))
-    go false e false = sym (ne_eqb i s.last (λ q. omega (arith, ltb-false s.last 16 e)))
+    go : (l : Last) → last_at (last_with (entry s.ticket 0) l) i ≡ eqb i (last_number l)
+    go (ran.Hard k) = row (ltb k 16) refl
+      where
+        row : (b : Bool) → ltb k 16 ≡ b → last_at (cond b (row_at k) nobody) i ≡ eqb i k
+        row true e = refl
+        row false e = sym (ne_eqb i k (λ q. omega (arith, ltb-false k 16 e)))
+    go ran.Firm = sym (ne_eqb i 16 (λ q. omega arith))
+    go ran.Nobody = sym (ne_eqb i 17 (λ q. omega arith))
 
 -- within an array, or past it
 by_place : (P : Type 0) (i size : ℕ) → (i < size → P) → (size ≤ i → P) → P
@@ -44,13 +50,10 @@ by_place P i size a b = go (dec_lt i size)
     go (no n) = b (omega arith)
 
 module _ (rows : Rows) (s : State) (L : Long rows s) (F : Fit rows s) (C : Checked rows s) where
-  last_le : s.last ≤ 17
-  last_le = last_low s C.last_ok_lem
-
   -- a row
 
-  says : (i : ℕ) → i < 16 → HardSays (ltb i rows.table.n) (bit s.«open» i) (eqb i s.last) (entry rows.table.c i) (entry rows.table.d i) (entry rows.table.t i) (entry rows.u i) (entry rows.table.m i) (entry s.run i)
-  says i h = hard_says (ltb i rows.table.n) (bit s.«open» i) (eqb i s.last) (entry rows.table.c i) (entry rows.table.d i) (entry rows.table.t i) (entry rows.u i) (entry rows.table.m i) (entry s.run i) (C.row i h)
+  says : (i : ℕ) → i < 16 → HardSays (ltb i rows.table.n) (bit s.«open» i) (eqb i (last_number s.last)) (entry rows.table.c i) (entry rows.table.d i) (entry rows.table.t i) (entry rows.u i) (entry rows.table.m i) (entry s.run i)
+  says i h = hard_says (ltb i rows.table.n) (bit s.«open» i) (eqb i (last_number s.last)) (entry rows.table.c i) (entry rows.table.d i) (entry rows.table.t i) (entry rows.u i) (entry rows.table.m i) (entry s.run i) (C.row i h)
 
   C_pos : (i : ℕ) → i < rows.table.n → 1 ≤ entry rows.table.c i
   C_pos i h =
@@ -94,8 +97,8 @@ module _ (rows : Rows) (s : State) (L : Long rows s) (F : Fit rows s) (C : Check
 
   -- a firm job
 
-  firm : (j : ℕ) → j < 8 → FirmSays (ltb j s.count) (eqb j 0 && eqb 16 s.last) (entry s.budget j) (entry s.used j)
-  firm j h = firm_says (ltb j s.count) (eqb j 0 && eqb 16 s.last) (entry s.budget j) (entry s.used j) (C.firm j h)
+  firm : (j : ℕ) → j < 8 → FirmSays (ltb j s.count) (eqb j 0 && eqb 16 (last_number s.last)) (entry s.budget j) (entry s.used j)
+  firm j h = firm_says (ltb j s.count) (eqb j 0 && eqb 16 (last_number s.last)) (entry s.budget j) (entry s.used j) (C.firm j h)
 
   firm_past : (j : ℕ) → s.count ≤ j → (entry s.ticket j ≡ 0) × (entry s.budget j ≡ 0) × (entry s.used j ≡ 0)
   firm_past j h = by_place ((entry s.ticket j ≡ 0) × (entry s.budget j ≡ 0) × (entry s.used j ≡ 0)) j 8 inside
@@ -127,7 +130,7 @@ module _ (rows : Rows) (s : State) (L : Long rows s) (F : Fit rows s) (C : Check
     };
     jobs = record { open_lt = F.open_lt; runs = L.run_long; open_past = open_in; run_blank = run_zero };
     queue = record { few = C.firms_few; budgets = L.budget_long; useds = L.used_long; tickets = L.ticket_long; past = firm_past };
-    last_le = last_le;
+    last_below = F.last_below;
   }
 
   -- the conditions
@@ -148,14 +151,14 @@ module _ (rows : Rows) (s : State) (L : Long rows s) (F : Fit rows s) (C : Check
   runs : (i : ℕ) → i < rows.table.n → Runs (last_at (last_of s) i) (slot_at rows s i)
   runs i h =
       let few = C.few in
-      rw (last_is s i (omega arith)) (to_runs (table_row rows.table i) (entry rows.u i) (age_at rows s i) (entry s.run i) (bit s.«open» i) (eqb i s.last) (C_pos i h) (says i (omega arith)).runs)
+      rw (last_is s i (omega arith)) (to_runs (table_row rows.table i) (entry rows.u i) (age_at rows s i) (entry s.run i) (bit s.«open» i) (eqb i (last_number s.last)) (C_pos i h) (says i (omega arith)).runs)
 
   paid : (j : ℕ) → j < s.count → (1 ≤ entry s.budget j) × (entry s.used j ≤ entry s.budget j) × (entry s.budget j < 2 ^ 16)
   paid j h =
       let few = C.firms_few in
       let S = firm j (omega arith) in
       let e : 1 - entry s.budget j ≡ 0 = rw (lt-ltb j s.count h) at S.there in
-      (omega arith, less (eqb j 0 && eqb 16 s.last) S.runs, F.budget_lt j)
+      (omega arith, less (eqb j 0 && eqb 16 (last_number s.last)) S.runs, F.budget_lt j)
     where
       less : (b : Bool) → entry s.used j ≤ most_run b (entry s.budget j) → entry s.used j ≤ entry s.budget j
       less true l = omega arith
@@ -163,13 +166,15 @@ module _ (rows : Rows) (s : State) (L : Long rows s) (F : Fit rows s) (C : Check
 
   -- only the first job can be the last runner
   live : (j : ℕ) → j < s.count → last_to (last_of s) (entry s.ticket j) ≡ false → entry s.used j < entry s.budget j
-  live j h e = let few = C.firms_few in go (eqb j 0) refl (eqb 16 s.last) refl (firm j (omega arith)).runs
+  live j h e = let few = C.firms_few in go (eqb j 0) refl (eqb 16 (last_number s.last)) refl (firm j (omega arith)).runs
     where
-      first : j ≡ 0 → 16 ≡ s.last → last_to (last_of s) (entry s.ticket j) ≡ true
-      first p q = rw (p, ← q) (eq-eqb (entry s.ticket 0) (entry s.ticket 0) refl)
+      first : (l : Last) → LastBelow l → j ≡ 0 → 16 ≡ last_number l → last_to (last_with (entry s.ticket 0) l) (entry s.ticket j) ≡ true
+      first (ran.Hard i) b p q = absurd (omega arith)
+      first ran.Firm b p q = rw p (eq-eqb (entry s.ticket 0) (entry s.ticket 0) refl)
+      first ran.Nobody b p q = absurd (omega arith)
 
-      go : (a : Bool) → eqb j 0 ≡ a → (b : Bool) → eqb 16 s.last ≡ b → entry s.used j ≤ most_run (a && b) (entry s.budget j) → entry s.used j < entry s.budget j
-      go true p true q l = absurd (true≢false (sym (first (eqb-true j 0 p) (eqb-true 16 s.last q)) ∙ e))
+      go : (a : Bool) → eqb j 0 ≡ a → (b : Bool) → eqb 16 (last_number s.last) ≡ b → entry s.used j ≤ most_run (a && b) (entry s.budget j) → entry s.used j < entry s.budget j
+      go true p true q l = absurd (true≢false (sym (first s.last F.last_below (eqb-true j 0 p) (eqb-true 16 (last_number s.last) q)) ∙ e))
       go true p false q l = omega (arith, (paid j h).0)
       go false p b q l = omega (arith, (paid j h).0)
 
@@ -186,33 +191,33 @@ module _ (rows : Rows) (s : State) (L : Long rows s) (F : Fit rows s) (C : Check
   first_ran zero l h = absurd (omega arith)
   first_ran (suc k) l h = (inl (refl, h), refl)
 
-  row_ran : bit s.«open» s.last ≡ true → 0 < entry s.run s.last → s.last < rows.table.n → HasRun (slot_at rows s s.last)
-  row_ran o r l = go (entry s.run s.last) r refl
+  row_ran : (i : ℕ) → bit s.«open» i ≡ true → 0 < entry s.run i → HasRun (slot_at rows s i)
+  row_ran i o r = go (entry s.run i) r refl
     where
-      go : (x : ℕ) → 0 < x → entry s.run s.last ≡ x → HasRun (slot_at rows s s.last)
+      go : (x : ℕ) → 0 < x → entry s.run i ≡ x → HasRun (slot_at rows s i)
       go zero p e = absurd (omega arith)
       go (suc x) p e = (x, rw (o, e))
 
-  ran : LastRan (last_of s) (slots_of rows s) (firms_of s) × FirstIs (last_of s) (firms_of s)
-  unfolding last_test
-  ran = go (ltb s.last 16) refl (eqb s.last 16) C.last_ok_lem
+  row_there : (i : ℕ) → bit s.«open» i ≡ true → i < rows.table.n
+  row_there i o = go (dec_lt i rows.table.n)
     where
-      go : (a : Bool) → ltb s.last 16 ≡ a → (x : Bool)
-          → cond a (bit s.«open» s.last && ltb 0 (entry s.run s.last)) (cond x (ltb 0 s.count && ltb 0 (entry s.used 0)) (eqb s.last 17)) ≡ true
-          → LastRan (cond a (row_at s.last) (cond x (firm_of (entry s.ticket 0)) nobody)) (slots_of rows s) (firms_of s)
-          × FirstIs (cond a (row_at s.last) (cond x (firm_of (entry s.ticket 0)) nobody)) (firms_of s)
-      go true p x e =
-          let (o, r) = and_true (bit s.«open» s.last) (ltb 0 (entry s.run s.last)) e in
-          let l : s.last < rows.table.n = there (dec_lt s.last rows.table.n) o in
-          (rows_hold (slot_at rows s) HasRun s.last 0 rows.table.n (omega arith) (omega arith) (row_ran o (ltb-true 0 (entry s.run s.last) r) l), tt)
-        where
-          there : Dec (s.last < rows.table.n) → bit s.«open» s.last ≡ true → s.last < rows.table.n
-          there (yes l) o = l
-          there (no n) o = absurd (true≢false (sym o ∙ open_in s.last (omega arith)))
-      go false p true e =
+      go : Dec (i < rows.table.n) → i < rows.table.n
+      go (yes l) = l
+      go (no n) = absurd (true≢false (sym o ∙ open_in i (omega arith)))
+
+  ran_last : LastRan (last_of s) (slots_of rows s) (firms_of s) × FirstIs (last_of s) (firms_of s)
+  ran_last = go s.last C.last_ok_lem
+    where
+      go : (l : Last) → last_test s l ≡ true → LastRan (last_with (entry s.ticket 0) l) (slots_of rows s) (firms_of s) × FirstIs (last_with (entry s.ticket 0) l) (firms_of s)
+      go (ran.Hard i) e =
+          let (o, r) = and_true (bit s.«open» i) (ltb 0 (entry s.run i)) e in
+          let l = row_there i o in
+          rw (lt-ltb i 16 (omega (arith, l, C.few)))
+          (rows_hold (slot_at rows s) HasRun i 0 rows.table.n (omega arith) (omega arith) (row_ran i o (ltb-true 0 (entry s.run i) r)), tt)
+      go ran.Firm e =
           let (c, u) = and_true (ltb 0 s.count) (ltb 0 (entry s.used 0)) e in
           first_ran s.count (ltb-true 0 s.count c) (ltb-true 0 (entry s.used 0) u)
-      go false p false e = (tt, tt)
+      go ran.Nobody e = (tt, tt)
 
   conditions : Image (station_of rows s)
   unfolding station_of
@@ -237,9 +242,9 @@ module _ (rows : Rows) (s : State) (L : Long rows s) (F : Fit rows s) (C : Check
           few = rw (length_rows (firm_at s) 0 s.count) C.firms_few;
           next_lt = F.next_lt;
           to_next = to_tickets s.next (firm_at s) 0 s.count (λ j a b. let e : s.count - j ≡ 0 + s.count - j = omega arith in rw e at (ticket_is j (omega arith)));
-          first = ran.1;
+          first = ran_last.1;
         };
-        last_ran = ran.0;
+        last_ran = ran_last.0;
       }
 
   pub imaged : Imaged rows s

@@ -1,11 +1,10 @@
 -- Rows and a state that have an image pass the tests, and their numbers have the widths of the block. Assumes nothing.
-use Rattle.std.proofs.Common.{◌≡◌, ℕ, zero, suc, ◌+◌, ◌-◌, ◌%◌, ◌^◌, ◌<◌, ◌≤◌, Bool, true, false, cond, not, ◌&&◌, ◌||◌, eqb, ltb, leb, List, sym, refl, ◌∙◌, true≢false, arith, ltb-false, ltb-true, le-ltb, lt-ltb, eq-eqb, ne_eqb, eqb-true, leb-true}
+use Rattle.std.proofs.Common.{◌≡◌, ℕ, zero, suc, ◌+◌, ◌-◌, ◌%◌, ◌^◌, ◌<◌, ◌≤◌, Bool, true, false, cond, not, ◌&&◌, ◌||◌, eqb, ltb, leb, List, sym, refl, ◌∙◌, true≢false, arith, ltb-false, ltb-true, le-ltb, lt-ltb, eq-eqb, ne_eqb, leb-true}
 use mathlib.Core.Bool.{false≢true}
-use borrow.Author.Tests.{eqb-false}
 use lib.Bits.{bit_or}
 use native.Mathlib.Decide.{dec_lt}
 use Rattle.rules.specs.Image.{last_ok}
-use Rattle.rules.specs.Station.{Slot, closed, firm_of, nobody, opened, row_at}
+use Rattle.rules.specs.Station.{closed, firm_of, nobody, opened, row_at, Slot}
 use Rattle.rules.specs.Tick.{bit, last_at, last_to}
 use Rattle.rules.specs.Tables.{RanksOk}
 use Rattle.rules.proofs.Bools.{and_true, true_and}
@@ -13,12 +12,15 @@ use Rattle.rules.proofs.Facts.{HasRun, LastRan, Live, Paid, Runs, closed_not_ope
 use Rattle.rules.proofs.Faults.{table_fault_iff}
 use Rattle.rules.proofs.ImageTests.{last_iff, opened_same}
 use Rattle.rules.proofs.Image.{Image, TableOk}
+use Rattle.state.specs.declared.Last.{Last}
+use Rattle.state.specs.declared.Last.TheVariants as ran
 use Rattle.state.specs.declared.Rows.{Rows}
 use Rattle.state.specs.declared.State.{State}
 use Rattle.table.specs.Memory.{table_row}
-use Rattle.state.specs.Meaning.{Kept, age_at, entry, firm_at, firms_of, last_of, rows_from, slot_at, slots_of, station_of, wrapped}
+use Rattle.state.specs.Meaning.{Kept, LastBelow, age_at, entry, firm_at, firms_of, last_of, last_with, rows_from, slot_at, slots_of, station_of, wrapped}
 use Rattle.state.proofs.Positions.{all_rows, holds_rows, map_rows}
 use Rattle.state.proofs.Widths.{Widths, image_of_lem, row_good, runs_rows, widths}
+use Rattle.block.specs.Layout.{last_number}
 use Rattle.block.specs.Tests.{most_run}
 use Rattle.block.specs.Image.{Imaged}
 use Rattle.block.proofs.Bits.{known_in}
@@ -82,14 +84,14 @@ module _ (rows : Rows) (s : State) (I : Imaged rows s) where
       (λ l. let G = row_good rows s I.stored i l in (omega (arith, G.U_le), G.D_le, G.U_le))
       (λ g. omega (arith, K.table.past i g))
 
-  run_le : (i : ℕ) → entry s.run i ≤ cond (bit s.«open» i) (most_run (eqb i s.last) (entry rows.table.c i)) 0
-  run_le i = row_case (λ k. entry s.run k ≤ cond (bit s.«open» k) (most_run (eqb k s.last) (entry rows.table.c k)) 0) i inside
+  run_le : (i : ℕ) → entry s.run i ≤ cond (bit s.«open» i) (most_run (eqb i (last_number s.last)) (entry rows.table.c i)) 0
+  run_le i = row_case (λ k. entry s.run k ≤ cond (bit s.«open» k) (most_run (eqb k (last_number s.last)) (entry rows.table.c k)) 0) i inside
       (λ g. rw (K.jobs.open_past i g) (omega (arith, K.jobs.run_blank i (K.jobs.open_past i g))))
     where
-      inside : i < rows.table.n → entry s.run i ≤ cond (bit s.«open» i) (most_run (eqb i s.last) (entry rows.table.c i)) 0
+      inside : i < rows.table.n → entry s.run i ≤ cond (bit s.«open» i) (most_run (eqb i (last_number s.last)) (entry rows.table.c i)) 0
       inside l =
           let few = K.table.few in
-          from_runs (table_row rows.table i) (entry rows.u i) (age_at rows s i) (entry s.run i) (bit s.«open» i) (eqb i s.last) (rw (last_is s i (omega arith)) at (runs i l)) (K.jobs.run_blank i)
+          from_runs (table_row rows.table i) (entry rows.u i) (age_at rows s i) (entry s.run i) (bit s.«open» i) (eqb i (last_number s.last)) (rw (last_is s i (omega arith)) at (runs i l)) (K.jobs.run_blank i)
 
   W : Widths rows s
   W = widths rows s I.stored
@@ -107,7 +109,7 @@ module _ (rows : Rows) (s : State) (I : Imaged rows s) where
     next_lt = W.next_lt;
     open_lt = K.jobs.open_lt;
     rested_lt = K.times.rested_lt;
-    last_lt = omega (arith, K.last_le);
+    last_below = K.last_below;
     count_lt = omega (arith, K.queue.few);
     run_lt = W.run_lt;
     stamp_lt = K.times.stamp_lt;
@@ -141,22 +143,24 @@ module _ (rows : Rows) (s : State) (I : Imaged rows s) where
       go false e false q h = absurd (true≢false h)
 
   -- only the first job can be the last runner
-  not_last : (j : ℕ) → j < s.count → (eqb j 0 && eqb 16 s.last) ≡ false → last_to (last_of s) (entry s.ticket j) ≡ false
-  not_last j h e = go (ltb s.last 16) (eqb s.last 16) refl
+  not_last : (j : ℕ) → j < s.count → (eqb j 0 && eqb 16 (last_number s.last)) ≡ false → last_to (last_of s) (entry s.ticket j) ≡ false
+  not_last j h = go s.last
     where
-      other : 16 ≡ s.last → entry s.ticket j ≡ entry s.ticket 0 → ⊥
-      other q t =
-          let zero_is : j ≡ 0 = not_first s.next s.count j W.next_lt h K.queue.few (sym (ticket_is j h) ∙ t ∙ ticket_is 0 (omega arith)) in
-          true≢false (sym (true_and (eq-eqb j 0 zero_is) (eq-eqb 16 s.last q)) ∙ e)
+      first : entry s.ticket j ≡ entry s.ticket 0 → j ≡ 0
+      first t = not_first s.next s.count j W.next_lt h K.queue.few (sym (ticket_is j h) ∙ t ∙ ticket_is 0 (omega arith))
 
-      go : (a x : Bool) → eqb s.last 16 ≡ x → last_to (cond a (row_at s.last) (cond x (firm_of (entry s.ticket 0)) nobody)) (entry s.ticket j) ≡ false
-      go true x p = refl
-      go false true p = ne_eqb (entry s.ticket j) (entry s.ticket 0) (other (sym (eqb-true s.last 16 p)))
-      go false false p = refl
+      go : (l : Last) → (eqb j 0 && eqb 16 (last_number l)) ≡ false → last_to (last_with (entry s.ticket 0) l) (entry s.ticket j) ≡ false
+      go (ran.Hard i) e = row (ltb i 16)
+        where
+          row : (b : Bool) → last_to (cond b (row_at i) nobody) (entry s.ticket j) ≡ false
+          row true = refl
+          row false = refl
+      go ran.Firm e = ne_eqb (entry s.ticket j) (entry s.ticket 0) (λ t. true≢false (sym (true_and (eq-eqb j 0 (first t)) refl) ∙ e))
+      go ran.Nobody e = refl
 
-  firm_runs : (j : ℕ) → entry s.used j ≤ most_run (eqb j 0 && eqb 16 s.last) (entry s.budget j)
-  firm_runs j = firm_case (λ k. entry s.used k ≤ most_run (eqb k 0 && eqb 16 s.last) (entry s.budget k)) j
-      (λ l. go (eqb j 0 && eqb 16 s.last) (not_last j l) l)
+  firm_runs : (j : ℕ) → entry s.used j ≤ most_run (eqb j 0 && eqb 16 (last_number s.last)) (entry s.budget j)
+  firm_runs j = firm_case (λ k. entry s.used k ≤ most_run (eqb k 0 && eqb 16 (last_number s.last)) (entry s.budget k)) j
+      (λ l. go (eqb j 0 && eqb 16 (last_number s.last)) (not_last j l) l)
       (λ g. omega (arith, (K.queue.past j g).2))
     where
       go : (b : Bool) → (b ≡ false → last_to (last_of s) (entry s.ticket j) ≡ false) → j < s.count → entry s.used j ≤ most_run b (entry s.budget j)
@@ -175,11 +179,11 @@ module _ (rows : Rows) (s : State) (I : Imaged rows s) where
 
   -- the last runner
 
-  row_ran : HasRun (slot_at rows s s.last) → (bit s.«open» s.last && ltb 0 (entry s.run s.last)) ≡ true
-  row_ran (r, e) = go (bit s.«open» s.last) e
+  row_ran : (i : ℕ) → HasRun (slot_at rows s i) → (bit s.«open» i && ltb 0 (entry s.run i)) ≡ true
+  row_ran i (r, e) = go (bit s.«open» i) e
     where
-      go : (o : Bool) → cond o (opened (entry s.run s.last)) closed ≡ opened (suc r) → (o && ltb 0 (entry s.run s.last)) ≡ true
-      go true e = lt-ltb 0 (entry s.run s.last) (omega (arith, opened_same e))
+      go : (o : Bool) → cond o (opened (entry s.run i)) closed ≡ opened (suc r) → (o && ltb 0 (entry s.run i)) ≡ true
+      go true e = lt-ltb 0 (entry s.run i) (omega (arith, opened_same e))
       go false e = absurd (closed_not_open e)
 
   firm_ran : (ss : List Slot) (k : ℕ) → last_ok (firm_of (entry s.ticket 0)) ss (rows_from (firm_at s) 0 k) ≡ true → (ltb 0 k && ltb 0 (entry s.used 0)) ≡ true
@@ -188,32 +192,26 @@ module _ (rows : Rows) (s : State) (I : Imaged rows s) where
   firm_ran ss (suc k) e =
       true_and (lt-ltb 0 (suc k) (omega arith)) (lt-ltb 0 (entry s.used 0) (leb-true 1 (entry s.used 0) (and_true (eqb (entry s.ticket 0) (entry s.ticket 0)) (leb 1 (entry s.used 0)) e).1))
 
-  last_passes : last_test s ≡ true
-  unfolding last_test station_of image
+  last_passes : last_test s s.last ≡ true
+  unfolding station_of image
   last_passes =
       let T = image.tickets in
-      go (ltb s.last 16) refl (eqb s.last 16) refl image.last_ran
-      ((last_iff s.next (last_of s) (slots_of rows s) (firms_of s) W.next_lt T.few T.to_next).1 (image.last_ran, T.first))
+      go s.last K.last_below image.last_ran ((last_iff s.next (last_of s) (slots_of rows s) (firms_of s) W.next_lt T.few T.to_next).1 (image.last_ran, T.first))
     where
-      go : (a : Bool) → ltb s.last 16 ≡ a → (x : Bool) → eqb s.last 16 ≡ x
-          → LastRan (cond a (row_at s.last) (cond x (firm_of (entry s.ticket 0)) nobody)) (slots_of rows s) (firms_of s)
-          → last_ok (cond a (row_at s.last) (cond x (firm_of (entry s.ticket 0)) nobody)) (slots_of rows s) (firms_of s) ≡ true
-          → cond a (bit s.«open» s.last && ltb 0 (entry s.run s.last)) (cond x (ltb 0 s.count && ltb 0 (entry s.used 0)) (eqb s.last 17)) ≡ true
-      go true p x q h e = row_ran (holds_rows HasRun (slot_at rows s) s.last 0 rows.table.n h).1
-      go false p true q h e = firm_ran (slots_of rows s) s.count e
-      go false p false q h e = eq-eqb s.last 17 (seventeen s.last (ltb-false s.last 16 p) K.last_le (eqb-false s.last 16 q))
-        where
-          seventeen : (l : ℕ) → 16 ≤ l → l ≤ 17 → (l ≡ 16 → ⊥) → l ≡ 17
-          seventeen l a b n = omega arith
+      go : (l : Last) → LastBelow l → LastRan (last_with (entry s.ticket 0) l) (slots_of rows s) (firms_of s) → last_ok (last_with (entry s.ticket 0) l) (slots_of rows s) (firms_of s) ≡ true
+          → last_test s l ≡ true
+      go (ran.Hard i) b h e = row_ran i (holds_rows HasRun (slot_at rows s) i 0 rows.table.n (rw (lt-ltb i 16 b) at h)).1
+      go ran.Firm b h e = firm_ran (slots_of rows s) s.count e
+      go ran.Nobody b h e = refl
 
   pub passes : Checked rows s
   passes = record {
     few = K.table.few;
     firms_few = K.queue.few;
-    row = λ i h. says_hard (ltb i rows.table.n) (bit s.«open» i) (eqb i s.last) (entry rows.table.c i) (entry rows.table.d i) (entry rows.table.t i) (entry rows.u i) (entry rows.table.m i) (entry s.run i)
+    row = λ i h. says_hard (ltb i rows.table.n) (bit s.«open» i) (eqb i (last_number s.last)) (entry rows.table.c i) (entry rows.table.d i) (entry rows.table.t i) (entry rows.u i) (entry rows.table.m i) (entry s.run i)
         (record { C_le = (in_order i).0; D_le = (in_order i).1; U_le = (in_order i).2; there = there i; runs = run_le i });
     stamp = λ i h. stamp_says (bit s.rested i || not (ltb i rows.table.n)) (entry rows.table.t i) s.clock (entry s.stamp i) (quiet i) (young i);
-    firm = λ j h. says_firm (ltb j s.count) (eqb j 0 && eqb 16 s.last) (entry s.budget j) (entry s.used j) (record { there = firm_there j; runs = firm_runs j });
+    firm = λ j h. says_firm (ltb j s.count) (eqb j 0 && eqb 16 (last_number s.last)) (entry s.budget j) (entry s.used j) (record { there = firm_there j; runs = firm_runs j });
     ticket = λ j h. ticket_due j;
     ranks = once_set (table_row rows.table) rows.table.n K.table.few ranks_ok;
     rank_low = λ i h. row_case (λ k. entry rows.table.rank k < 32) i (λ l. omega (arith, rank_lt (table_row rows.table) rows.table.n K.table.few ranks_ok i l, K.table.few)) (λ g. omega (arith, (K.table.past i g).4));

@@ -1,5 +1,5 @@
 -- The promises of decoding and encoding, proved. Assumes nothing.
-use Rattle.std.proofs.Common.{◌≡◌, ℕ, ◌+◌, ◌<◌, Bool, true, false, cond, ◌&&◌, eqb, None, List, ◌++◌, length, drop, sym, refl, ap, ◌∙◌, ap₂, subst₂, append_assoc, arith, length-append, drop-drop, take_at, drop_at, eq-eqb, eqb-true}
+use Rattle.std.proofs.Common.{◌≡◌, ℕ, ◌+◌, ◌<◌, ◌≤◌, Bool, true, false, cond, ◌&&◌, eqb, None, List, ◌++◌, length, drop, sym, refl, ap, ◌∙◌, ap₂, subst₂, append_assoc, arith, length-append, drop-drop, take_at, drop_at, eq-eqb, eqb-true}
 use lib.ListN.{get_or-replicate}
 use lib.Seq.{sets, sets-eq}
 use Rattle.rules.specs.Tables.{Bytes}
@@ -7,7 +7,7 @@ use Rattle.state.specs.declared.Rows.{Rows}
 use Rattle.state.specs.declared.State.{State}
 use Rattle.state.specs.Meaning.{entry}
 use Rattle.block.specs.declared.Decoded.{Decoded}
-use Rattle.block.specs.Places.{block_bytes, budget_at, clock_at, count_at, reserved_at, reserved_bytes, run_at}
+use Rattle.block.specs.Places.{block_bytes, budget_at, clock_at, count_at, last_at, reserved_at, reserved_bytes, run_at}
 use Rattle.block.specs.Layout.{Long, head_bytes, image_of, jobs_bytes, margins_bytes, marks_bytes, numbers_bytes, queue_bytes, ranks_bytes, reserved, rows_at, state_at, state_on, table_bytes}
 use Rattle.block.specs.Tests.{decoded_as, decoded_of, image_good}
 use Rattle.block.specs.Image.{BlockPromises, Imaged}
@@ -16,6 +16,7 @@ use Rattle.block.proofs.Bytes.{fit_at, long_at}
 use Rattle.block.proofs.Passes.{fit, passes}
 use Rattle.block.proofs.Widths.{entry_moved}
 use Rattle.block.proofs.Lengths.{head_long, image_long, jobs_long, queue_long, ranks_long, table_long}
+use Rattle.block.proofs.Last.{number_low}
 use Rattle.block.proofs.Meant.{imaged}
 use Rattle.block.proofs.Tested.{Checked, Free, image_iff}
 use Rattle.block.proofs.Trip.{free_back, reserved_stands, rows_back, state_back}
@@ -37,8 +38,12 @@ module _ (rows : Rows) (s : State) (I : Imaged rows s) where
     behind = λ i h. entry_moved (image_of rows s) reserved_at i ∙ ap (λ l. entry l i) (reserved_stands rows s L (fit rows s I)) ∙ reserved_zero i h;
   }
 
+  named : entry (image_of rows s) last_at ≤ 17
+  unfolding image_of head_bytes
+  named = omega (arith, number_low s.last I.stored.kept.last_below)
+
   image_good_lem : image_good (image_of rows s) ≡ true
-  image_good_lem = (image_iff (image_of rows s)).1 (subst₂ Checked (sym (rows_back rows s L (fit rows s I))) (sym (state_back rows s L (fit rows s I))) (passes rows s I), free)
+  image_good_lem = (image_iff (image_of rows s)).1 (subst₂ Checked (sym (rows_back rows s L (fit rows s I))) (sym (state_back rows s L (fit rows s I))) (passes rows s I), free, named)
 
   pub decode_encode : decoded_of (image_of rows s) ≡ decoded_as rows s
   unfolding decoded_of
@@ -51,8 +56,8 @@ module _ (rows : Rows) (s : State) (I : Imaged rows s) where
 module _ (b : List ℕ) (bytes : Bytes b) where
   accepted : length b ≡ block_bytes → image_good b ≡ true → (b ≡ image_of (rows_at b) (state_at b)) × Imaged (rows_at b) (state_at b)
   accepted l e =
-      let (C, F) = (image_iff b).0 e in
-      (sym (image_is b bytes l F.front F.behind), imaged (rows_at b) (state_at b) (long_at b) (fit_at b bytes) C)
+      let (C, F, named) = (image_iff b).0 e in
+      (sym (image_is b bytes l F.front named F.behind), imaged (rows_at b) (state_at b) (long_at b) (fit_at b bytes) C)
 
   pub decode_only : (rows : Rows) (s : State) → decoded_of b ≡ decoded_as rows s → (b ≡ image_of rows s) × Imaged rows s
   unfolding decoded_of
@@ -114,7 +119,7 @@ module _ (rows : Rows) (s after : State) (L : Long rows s) (M : Long rows after)
 
 pub block_promises : BlockPromises
 block_promises = record {
-  image_bytes = λ rows s I. (Bytes.image_bytes rows s, image_long rows s I.long);
+  image_bytes = λ rows s I. (Bytes.image_bytes rows s (fit rows s I), image_long rows s I.long);
   decode_encode = decode_encode;
   decode_only = decode_only;
   write_image = write_image;

@@ -2,45 +2,49 @@
 use Rattle.std.proofs.Common.{◌≡◌, ℕ, ◌+◌, ◌*◌, ◌%◌, ◌^◌, ◌<◌, ◌≤◌, Bool, true, false, cond, not, ◌&&◌, ◌||◌, eqb, ltb, ◌↔◌, List, sym, refl, ap, ◌∙◌, one-mul, arith, ltb-false, ltb-true, le-ltb, lt-ltb, eq-eqb, eqb-true}
 use mathlib.Core.Bool.{false≢true}
 use mathlib.Core.Logic.Iff
+use borrow.Author.Tests.{eqb-false}
 use lib.Bits.{and_le_l, and_le_r, bit_or, bit_xor, xor_add_and, xor_self}
 use Rattle.rules.specs.Tick.{bit}
 use Rattle.rules.proofs.Bools.{and_iff}
 use Rattle.rules.proofs.ImageTests.{le_iff}
 use Rattle.state.specs.Meaning.{entry, wrapped}
 use Rattle.state.specs.Sets.{known, others}
+use Rattle.state.specs.declared.Last.{Last}
+use Rattle.state.specs.declared.Last.TheVariants as ran
 use Rattle.state.specs.declared.Rows.{Rows}
 use Rattle.state.specs.declared.State.{State}
 use Rattle.state.proofs.Bits.{bit_known, bit_of_or, bit_others, known_lt}
 use Rattle.block.specs.Places.{C_at, D_at, M_at, T_at, U_at, budget_at, clock_at, count_at, free_at, last_at, n_at, next_at, open_at, rank_at, reserved_at, reserved_bytes, rested_at, run_at, stamp_at, ticket_at, used_at}
 use Rattle.block.specs.Words.{le, les_at}
 use Rattle.block.proofs.Widths.{one_byte}
-use Rattle.block.specs.Layout.{rows_at, state_at}
+use Rattle.block.specs.Layout.{last_named, last_number, rows_at, state_at}
 use Rattle.block.specs.Tests
 use Rattle.block.specs.Tests.{fields_good, firm_fault, firm_mark, free_good, hard_fault, image_good, jobs_good, or_of, queue_good, rank_bit, rest_good, row_mark, stamp_fault, table_good, times_good}
 use Rattle.block.proofs.Bits.{firm_mark_lem, row_mark_lem}
 use Rattle.block.proofs.Entered.{entry_is}
+use Rattle.block.proofs.Last.{number_back}
 use Rattle.block.proofs.Ors.{faultless, le_or, no_fault, none_or, or_alike, or_below, or_none}
 
 -- the last runner, if a job, is open and has run
-unfoldable pub last_test : State → Bool
-last_test s =
-    cond (ltb s.last 16) (bit s.«open» s.last && ltb 0 (entry s.run s.last))
-    (cond (eqb s.last 16) (ltb 0 s.count && ltb 0 (entry s.used 0)) (eqb s.last 17))
+abbrev pub last_test : State → Last → Bool
+last_test s (ran.Hard i) = bit s.«open» i && ltb 0 (entry s.run i)
+last_test s ran.Firm = ltb 0 s.count && ltb 0 (entry s.used 0)
+last_test s ran.Nobody = true
 
 -- what the tests say of the rows and the state, entry by entry
 pub record Checked (rows : Rows) (s : State) : Type 0 where
   pub few : rows.table.n ≤ 16
   pub firms_few : s.count ≤ 8
-  pub row : (i : ℕ) → i < 16 → hard_fault (ltb i rows.table.n) (bit s.«open» i) (eqb i s.last) (entry rows.table.c i) (entry rows.table.d i) (entry rows.table.t i) (entry rows.u i) (entry rows.table.m i) (entry s.run i) ≡ 0
+  pub row : (i : ℕ) → i < 16 → hard_fault (ltb i rows.table.n) (bit s.«open» i) (eqb i (last_number s.last)) (entry rows.table.c i) (entry rows.table.d i) (entry rows.table.t i) (entry rows.u i) (entry rows.table.m i) (entry s.run i) ≡ 0
   pub stamp : (i : ℕ) → i < 16 → stamp_fault (bit s.rested i || not (ltb i rows.table.n)) (entry rows.table.t i) s.clock (entry s.stamp i) ≡ 0
-  pub firm : (j : ℕ) → j < 8 → firm_fault (ltb j s.count) (eqb j 0 && eqb 16 s.last) (entry s.budget j) (entry s.used j) ≡ 0
+  pub firm : (j : ℕ) → j < 8 → firm_fault (ltb j s.count) (eqb j 0 && eqb 16 (last_number s.last)) (entry s.budget j) (entry s.used j) ≡ 0
   pub ticket : (j : ℕ) → j < 8 → entry s.ticket j ≡ cond (ltb j s.count) ((wrapped s.next s.count + j) % 2 ^ 32) 0
   pub ranks : or_of (λ i. 2 ^ (entry rows.table.rank i % 32)) rows.table.n ≡ known rows.table.n
   pub rank_low : (i : ℕ) → i < 16 → entry rows.table.rank i < 32
   pub rank_past : (i : ℕ) → i < 16 → rows.table.n ≤ i → entry rows.table.rank i ≡ 0
   pub open_le : s.«open» ≤ known rows.table.n
   pub rested_le : s.rested ≤ known rows.table.n
-  pub last_ok_lem : last_test s ≡ true
+  pub last_ok_lem : last_test s s.last ≡ true
 
 -- the bytes kept free are 0
 pub record Free (b : List ℕ) : Type 0 where
@@ -70,15 +74,13 @@ equal_xor a b e = omega (arith, xor_add_and a b, and_le_l a b, and_le_r a b)
 faults_iff : (f : ℕ → ℕ) (n : ℕ) → (eqb (or_of f n) 0 ≡ true) ↔ ((i : ℕ) → i < n → f i ≡ 0)
 faults_iff f n = (λ e. no_fault f n (eqb-true (or_of f n) 0 e), λ h. eq-eqb (or_of f n) 0 (faultless f n h))
 
-pub last_low : (s : State) → last_test s ≡ true → s.last ≤ 17
-unfolding last_test
-last_low s e = go (ltb s.last 16) refl (eqb s.last 16) refl (eqb s.last 17) refl e
+last_low : (k : ℕ) (row first : Bool) → cond (ltb k 16) row (cond (eqb k 16) first (eqb k 17)) ≡ true → k ≤ 17
+last_low k row first = go (ltb k 16) refl (eqb k 16) refl (eqb k 17) refl
   where
-    go : (a : Bool) → ltb s.last 16 ≡ a → (x : Bool) → eqb s.last 16 ≡ x → (y : Bool) → eqb s.last 17 ≡ y
-        → cond a (bit s.«open» s.last && ltb 0 (entry s.run s.last)) (cond x (ltb 0 s.count && ltb 0 (entry s.used 0)) y) ≡ true → s.last ≤ 17
-    go true p x q y r e = omega (arith, ltb-true s.last 16 p)
-    go false p true q y r e = omega (arith, eqb-true s.last 16 q)
-    go false p false q true r e = omega (arith, eqb-true s.last 17 r)
+    go : (a : Bool) → ltb k 16 ≡ a → (x : Bool) → eqb k 16 ≡ x → (y : Bool) → eqb k 17 ≡ y → cond a row (cond x first y) ≡ true → k ≤ 17
+    go true p x q y r e = omega (arith, ltb-true k 16 p)
+    go false p true q y r e = omega (arith, eqb-true k 16 q)
+    go false p false q true r e = omega (arith, eqb-true k 17 r)
     go false p false q false r e = absurd (false≢true e)
 
 -- the tests, and what they say
@@ -141,20 +143,23 @@ module _ (b : List ℕ) where
   rank_entry : (i : ℕ) → i < 16 → entry rows.table.rank i ≡ entry b (rank_at + i)
   rank_entry i h = entry_is (λ j. le 1 b (rank_at + 1 * j)) 16 i h ∙ one_byte b (rank_at + 1 * i) ∙ ap (λ k. entry b (rank_at + k)) (one-mul i)
 
-  last_same : last_test s ≡ Tests.last_good b s.last s.«open» s.count
-  unfolding last_test
-  last_same = go (ltb (entry b last_at) 16) refl
+  last_same : (k : ℕ) → k ≤ 17 → last_test s (last_named k) ≡ Tests.last_good b k s.«open» s.count
+  last_same k h = go (ltb k 16) refl (eqb k 16) refl
     where
-      go : (a : Bool) → ltb (entry b last_at) 16 ≡ a
-          → cond a (bit (le 2 b open_at) (entry b last_at) && ltb 0 (entry (les_at 2 b run_at 16) (entry b last_at))) (cond (eqb (entry b last_at) 16) (ltb 0 (entry b count_at) && ltb 0 (entry (les_at 2 b used_at 8) 0)) (eqb (entry b last_at) 17))
-          ≡ cond a (bit (le 2 b open_at) (entry b last_at) && ltb 0 (le 2 b (run_at + 2 * entry b last_at))) (cond (eqb (entry b last_at) 16) (ltb 0 (entry b count_at) && ltb 0 (le 2 b used_at)) (eqb (entry b last_at) 17))
-      go true e = rw (row_entry run_at (entry b last_at) (ltb-true (entry b last_at) 16 e))
-      go false e = rw (firm_entry used_at 0 (omega arith))
+      go : (a : Bool) → ltb k 16 ≡ a → (x : Bool) → eqb k 16 ≡ x
+          → last_test s (cond a (ran.Hard k) (cond x ran.Firm ran.Nobody))
+          ≡ cond a (bit s.«open» k && ltb 0 (le 2 b (run_at + 2 * k))) (cond x (ltb 0 s.count && ltb 0 (le 2 b used_at)) (eqb k 17))
+      go true e x q = rw (row_entry run_at k (ltb-true k 16 e))
+      go false e true q = rw (firm_entry used_at 0 (omega arith))
+      go false e false q = sym (eq-eqb k 17 (omega (arith, ltb-false k 16 e, eqb-false k 16 q)))
 
-  module _ (few : rows.table.n ≤ 16) (firms_few : s.count ≤ 8) (last_le : s.last ≤ 17) where
-    hard_same : (i : ℕ) → i < 16 → hard_fault (ltb i rows.table.n) (bit s.«open» i) (eqb i s.last) (entry rows.table.c i) (entry rows.table.d i) (entry rows.table.t i) (entry rows.u i) (entry rows.table.m i) (entry s.run i)
-        ≡ Tests.hard_fault_at b (known rows.table.n) s.«open» (row_mark s.last) i
-    hard_same i h = rw (row_entry C_at i h, row_entry D_at i h, row_entry T_at i h, row_entry U_at i h, row_entry M_at i h, row_entry run_at i h, ← bit_known rows.table.n i few, ← row_mark_lem s.last i last_le h)
+  abbrev last : ℕ
+  last = entry b last_at
+
+  module _ (few : rows.table.n ≤ 16) (firms_few : s.count ≤ 8) (last_le : last ≤ 17) where
+    hard_same : (i : ℕ) → i < 16 → hard_fault (ltb i rows.table.n) (bit s.«open» i) (eqb i (last_number s.last)) (entry rows.table.c i) (entry rows.table.d i) (entry rows.table.t i) (entry rows.u i) (entry rows.table.m i) (entry s.run i)
+        ≡ Tests.hard_fault_at b (known rows.table.n) s.«open» (row_mark last) i
+    hard_same i h = rw (row_entry C_at i h, row_entry D_at i h, row_entry T_at i h, row_entry U_at i h, row_entry M_at i h, row_entry run_at i h, ← bit_known rows.table.n i few, number_back last last_le, ← row_mark_lem last i last_le h)
 
     stamp_same : (i : ℕ) → i < 16 → stamp_fault (bit s.rested i || not (ltb i rows.table.n)) (entry rows.table.t i) s.clock (entry s.stamp i)
         ≡ Tests.stamp_fault_at b (bit_or s.rested (others (known rows.table.n))) s.clock i
@@ -163,9 +168,9 @@ module _ (b : List ℕ) where
         sym (bit_of_or s.rested (others (known rows.table.n)) i ∙ ap (λ x. bit s.rested i || x) (bit_others (known rows.table.n) i (known_lt rows.table.n) h ∙ ap not (bit_known rows.table.n i few))) in
         rw (e, row_entry T_at i h, entry_is (λ j. le 4 b (stamp_at + 4 * j)) 16 i h)
 
-    firm_same : (j : ℕ) → j < 8 → firm_fault (ltb j s.count) (eqb j 0 && eqb 16 s.last) (entry s.budget j) (entry s.used j)
-        ≡ Tests.firm_fault_at b (known s.count) (firm_mark s.last) j
-    firm_same j h = rw (firm_entry budget_at j h, firm_entry used_at j h, ← bit_known s.count j (omega arith), ← firm_mark_lem s.last j last_le)
+    firm_same : (j : ℕ) → j < 8 → firm_fault (ltb j s.count) (eqb j 0 && eqb 16 (last_number s.last)) (entry s.budget j) (entry s.used j)
+        ≡ Tests.firm_fault_at b (known s.count) (firm_mark last) j
+    firm_same j h = rw (firm_entry budget_at j h, firm_entry used_at j h, ← bit_known s.count j (omega arith), number_back last last_le, ← firm_mark_lem last j last_le)
 
     ticket_same : (j : ℕ) → j < 8 → bit_xor (entry s.ticket j) (cond (ltb j s.count) ((wrapped s.next s.count + j) % 2 ^ 32) 0)
         ≡ Tests.ticket_fault_at b (known s.count) (wrapped s.next s.count) j
@@ -187,7 +192,7 @@ module _ (b : List ℕ) where
       rank_past = λ i h n. rw (rank_entry i h) (rw (le-ltb i rows.table.n n) at (T.blank i h));
       open_le = T.opens;
       rested_le = T.rests;
-      last_ok_lem = last_same ∙ T.last;
+      last_ok_lem = last_same last last_le ∙ T.last;
     }
 
     of_checked : Checked rows s → Free b → TestsSay b
@@ -201,7 +206,7 @@ module _ (b : List ℕ) where
       rests = C.rested_le;
       firms = λ j h. sym (firm_same j h) ∙ C.firm j h;
       tickets = λ j h. sym (ticket_same j h) ∙ ap (bit_xor (entry s.ticket j)) (sym (C.ticket j h)) ∙ xor_self (entry s.ticket j);
-      last = sym last_same ∙ C.last_ok_lem;
+      last = sym (last_same last last_le) ∙ C.last_ok_lem;
       free = F;
     }
       where
@@ -212,15 +217,17 @@ module _ (b : List ℕ) where
             go true e = refl
             go false e = rw (rank_entry i h) at (C.rank_past i h (ltb-false i rows.table.n e))
 
-  pub image_iff : (image_good b ≡ true) ↔ (Checked rows s × Free b)
+  pub image_iff : (image_good b ≡ true) ↔ (Checked rows s × Free b × (last ≤ 17))
   image_iff = (λ e. go (ltb 16 rows.table.n) refl (ltb 8 s.count) refl e, fro)
     where
-      go : (x : Bool) → ltb 16 rows.table.n ≡ x → (y : Bool) → ltb 8 s.count ≡ y → cond x false (cond y false (fields_good b rows.table.n s.count s.last)) ≡ true → Checked rows s × Free b
+      go : (x : Bool) → ltb 16 rows.table.n ≡ x → (y : Bool) → ltb 8 s.count ≡ y → cond x false (cond y false (fields_good b rows.table.n s.count last)) ≡ true
+          → Checked rows s × Free b × (last ≤ 17)
       go true p y q e = absurd (false≢true e)
       go false p true q e = absurd (false≢true e)
       go false p false q e =
           let T = (fields_iff b).0 e in
-          (to_checked (ltb-false 16 rows.table.n p) (ltb-false 8 s.count q) (last_low s (last_same ∙ T.last)) T, T.free)
+          let last_le = last_low last _ _ T.last in
+          (to_checked (ltb-false 16 rows.table.n p) (ltb-false 8 s.count q) last_le T, T.free, last_le)
 
-      fro : Checked rows s × Free b → cond (ltb 16 rows.table.n) false (cond (ltb 8 s.count) false (fields_good b rows.table.n s.count s.last)) ≡ true
-      fro (C, F) = rw (le-ltb 16 rows.table.n C.few, le-ltb 8 s.count C.firms_few) ((fields_iff b).1 (of_checked C.few C.firms_few (last_low s C.last_ok_lem) C F))
+      fro : Checked rows s × Free b × (last ≤ 17) → cond (ltb 16 rows.table.n) false (cond (ltb 8 s.count) false (fields_good b rows.table.n s.count last)) ≡ true
+      fro (C, F, last_le) = rw (le-ltb 16 rows.table.n C.few, le-ltb 8 s.count C.firms_few) ((fields_iff b).1 (of_checked C.few C.firms_few last_le C F))

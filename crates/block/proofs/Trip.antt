@@ -2,11 +2,12 @@
 use Rattle.std.proofs.Common.{◌≡◌, ℕ, ◌^◌, ◌<◌, List, ◌++◌, drop, refl, append_assoc, arith}
 use Rattle.state.specs.declared.Rows.{Rows}
 use Rattle.state.specs.declared.State.{State}
-use Rattle.state.specs.Meaning.{entry}
+use Rattle.state.specs.Meaning.{LastBelow, entry}
 use Rattle.block.specs.Places.{C_at, D_at, M_at, T_at, U_at, budget_at, clock_at, count_at, free_at, last_at, n_at, next_at, open_at, rank_at, reserved_at, rested_at, run_at, stamp_at, ticket_at, used_at}
 use Rattle.block.specs.Words.{joined, le, le_bytes}
-use Rattle.block.specs.Layout.{Long, head_bytes, image_of, jobs_bytes, queue_bytes, reserved, rows_at, state_at, table_bytes}
+use Rattle.block.specs.Layout.{Long, head_bytes, image_of, jobs_bytes, last_named, queue_bytes, reserved, rows_at, state_at, table_bytes}
 use Rattle.block.proofs.Arrays.{joined_long, numbers_back}
+use Rattle.block.proofs.Last.{named_back}
 use Rattle.block.proofs.Stands.{Stands, behind}
 
 -- the numbers have the widths of the block
@@ -22,7 +23,7 @@ pub record Fit (rows : Rows) (s : State) : Type 0 where
   pub next_lt : s.next < 2 ^ 32
   pub open_lt : s.«open» < 2 ^ 16
   pub rested_lt : s.rested < 2 ^ 16
-  pub last_lt : s.last < 2 ^ 8
+  pub last_below : LastBelow s.last
   pub count_lt : s.count < 2 ^ 8
   pub run_lt : (i : ℕ) → entry s.run i < 2 ^ 16
   pub stamp_lt : (i : ℕ) → entry s.stamp i < 2 ^ 32
@@ -89,9 +90,9 @@ module _ (rows : Rows) (s : State) (L : Long rows s) (F : Fit rows s) where
   unfolding image_of head_bytes
   count_back = omega (arith, F.count_lt)
 
-  last_back : entry (image_of rows s) last_at ≡ s.last
+  last_back : last_named (entry (image_of rows s) last_at) ≡ s.last
   unfolding image_of head_bytes
-  last_back = omega (arith, F.last_lt)
+  last_back = named_back s.last F.last_below
 
   pub free_back : entry (image_of rows s) free_at ≡ 0
   unfolding image_of head_bytes

@@ -1,25 +1,29 @@
 -- A block whose free bytes are 0 is the image of what is read from it. Assumes nothing.
-use Rattle.std.proofs.Common.{◌≡◌, ℕ, ◌+◌, ◌<◌, List, ◌++◌, length, drop, replicate, sym, ap, ◌∙◌, subst, append-nil, arith, length-drop, drop_of_length-le, get_or-drop, ext_get_or}
+use Rattle.std.proofs.Common.{◌≡◌, ℕ, ◌+◌, ◌%◌, ◌<◌, ◌≤◌, List, [], ◌∷◌, ◌++◌, length, drop, replicate, sym, ap, ◌∙◌, subst, append-nil, arith, length-drop, drop_of_length-le, get_or-drop, ext_get_or}
 use lib.ListN.{get_or-replicate, length-replicate}
 use Rattle.rules.specs.Tables.{Bytes}
+use Rattle.rules.proofs.Fields.{byte_lt}
 use Rattle.state.specs.Meaning.{entry}
 use Rattle.block.specs.Places.{C_at, D_at, M_at, T_at, U_at, block_bytes, budget_at, clock_at, count_at, free_at, last_at, n_at, next_at, open_at, rank_at, reserved_at, reserved_bytes, rested_at, run_at, stamp_at, ticket_at, used_at}
-use Rattle.block.specs.Words.{le_bytes}
+use Rattle.block.specs.Words.{le}
 use Rattle.block.specs.Layout.{head_bytes, image_of, jobs_bytes, marks_bytes, numbers_bytes, queue_bytes, reserved, rows_at, state_at, table_bytes}
 use Rattle.block.proofs.Arrays.{numbers_stand}
+use Rattle.block.proofs.Last.{number_back}
 use Rattle.block.proofs.Stands.{Stands, join}
-use Rattle.block.proofs.Widths.{one_byte, stands}
+use Rattle.block.proofs.Widths.{stands}
 
 module _ (b : List ℕ) (bytes : Bytes b) (long : length b ≡ block_bytes)
-    (free : entry b free_at ≡ 0) (blank : (i : ℕ) → i < reserved_bytes → entry b (reserved_at + i) ≡ 0) where
-  byte : (k : ℕ) → k < block_bytes → Stands b k (le_bytes 1 (entry b k)) (drop (k + 1) b)
-  byte k h = rw (← one_byte b k) (stands b bytes 1 k (omega arith))
+    (free : entry b free_at ≡ 0) (named : entry b last_at ≤ 17) (blank : (i : ℕ) → i < reserved_bytes → entry b (reserved_at + i) ≡ 0) where
+  byte : (k : ℕ) → k < block_bytes → Stands b k (entry b k % 256 ∷ []) (drop (k + 1) b)
+  byte k h =
+      let low : le 1 b k ≡ entry b k % 256 = omega (arith, byte_lt b bytes k) in
+      subst (λ x. Stands b k (x ∷ []) (drop (k + 1) b)) low (stands b bytes 1 k (omega arith))
 
-  free_stands : Stands b free_at (le_bytes 1 0) (drop clock_at b)
-  free_stands = subst (λ x. Stands b free_at (le_bytes 1 x) (drop clock_at b)) free (byte free_at (omega arith))
+  free_stands : Stands b free_at (0 ∷ []) (drop clock_at b)
+  free_stands = subst (λ x. Stands b free_at (x % 256 ∷ []) (drop clock_at b)) free (byte free_at (omega arith))
 
   marks_stand : Stands b count_at (marks_bytes (state_at b)) (drop free_at b)
-  marks_stand = join last_at (byte count_at (omega arith)) (byte last_at (omega arith))
+  marks_stand = rw (number_back (entry b last_at) named) (join last_at (byte count_at (omega arith)) (byte last_at (omega arith)))
 
   numbers_are : Stands b clock_at (numbers_bytes (state_at b)) (drop C_at b)
   numbers_are =

@@ -27,16 +27,20 @@ moved (suc w) b at k = ap₂ (λ x y. x + y * 256) (entry_moved b at k) (ap (le 
 
 pub wide : (w x : ℕ) → length (le_bytes w x) ≡ w
 wide zero x = refl
-wide (suc w) x = ap suc (wide w (x / 256))
+wide (suc zero) x = refl
+wide (suc (suc w)) x = ap suc (wide (suc w) (x / 256))
 
-pub clean : (w x : ℕ) → Bytes (le_bytes w x)
-clean zero x = tt
-clean (suc w) x = (omega arith, clean w (x / 256))
+pub clean : (w x : ℕ) → x < 256 ^ w → Bytes (le_bytes w x)
+clean zero x h = tt
+clean (suc zero) x h = (omega arith, tt)
+clean (suc (suc w)) x h = (omega arith, clean (suc w) (x / 256) (omega arith))
 
 pub back : (w x : ℕ) (q : List ℕ) → x < 256 ^ w → le w (le_bytes w x ++ q) 0 ≡ x
 back zero x q h = omega arith
-back (suc w) x q h =
-    let rest : le w (x % 256 ∷ (le_bytes w (x / 256) ++ q)) 1 ≡ x / 256 = moved w (x % 256 ∷ (le_bytes w (x / 256) ++ q)) 1 0 ∙ back w (x / 256) q (omega arith) in
+back (suc zero) x q h = omega arith
+back (suc (suc w)) x q h =
+    let all = x % 256 ∷ (le_bytes (suc w) (x / 256) ++ q) in
+    let rest : le (suc w) all 1 ≡ x / 256 = moved (suc w) all 1 0 ∙ back (suc w) (x / 256) q (omega arith) in
     omega arith
 
 -- what is read of bytes
@@ -46,13 +50,16 @@ module _ (b : List ℕ) (bytes : Bytes b) where
   below zero k = omega arith
   below (suc w) k = omega (arith, byte_lt b bytes k, below w (k + 1))
 
+  first : (k : ℕ) → k + 1 ≤ length b → Stands b k (entry b k ∷ []) (drop (k + 1) b)
+  first k h = record { is = rw (add-one, drop-cons b k 0 (omega arith)) }
+
   pub stands : (w k : ℕ) → k + w ≤ length b → Stands b k (le_bytes w (le w b k)) (drop (k + w) b)
   stands zero k h = record { is = rw add-zero }
-  stands (suc w) k h =
+  stands (suc zero) k h = rw (one_byte b k) (first k h)
+  stands (suc (suc w)) k h =
       let x = byte_lt b bytes k in
-      let low : le (suc w) b k % 256 ≡ entry b k = omega arith in
-      let high : le (suc w) b k / 256 ≡ le w b (k + 1) = omega arith in
-      let first : Stands b k (entry b k ∷ []) (drop (k + 1) b) = record { is = rw (add-one, drop-cons b k 0 (omega arith)) } in
-      let there = beside k 1 w first (stands w (k + 1) (omega arith)) in
-      let one : 1 + w ≡ suc w = omega arith in
+      let low : le (suc (suc w)) b k % 256 ≡ entry b k = omega arith in
+      let high : le (suc (suc w)) b k / 256 ≡ le (suc w) b (k + 1) = omega arith in
+      let there = beside k 1 (suc w) (first k (omega arith)) (stands (suc w) (k + 1) (omega arith)) in
+      let one : 1 + suc w ≡ suc (suc w) = omega arith in
       rw (low, high, ← one) there

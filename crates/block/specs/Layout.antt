@@ -1,11 +1,25 @@
 -- The block: what stands at each place, and the one image of a state. Assumes nothing.
-use Rattle.std.specs.Prelude.{◌≡◌, ℕ, ◌%◌, cond, List, [], ◌∷◌, ◌++◌, length, replicate, ◌==◌}
+use Rattle.std.specs.Prelude.{◌≡◌, ℕ, ◌%◌, cond, List, [], ◌∷◌, ◌++◌, length, replicate, ◌==◌, nat_lt}
 use Rattle.std.proofs.lemmas.List.Edits.{sets}
 use Rattle.state.specs.Meaning.{entry}
+use Rattle.state.specs.declared.Last.{Last}
+use Rattle.state.specs.declared.Last.TheVariants.{Hard, Firm, Nobody}
 use Rattle.state.specs.declared.Rows.{Rows}
 use Rattle.state.specs.declared.State.{State}
 use Rattle.block.specs.Places.{C_at, D_at, M_at, T_at, U_at, block_bytes, budget_at, clock_at, count_at, last_at, n_at, next_at, open_at, rank_at, reserved_bytes, rested_at, run_at, stamp_at, ticket_at, used_at}
 use Rattle.block.specs.Words.{joined, le, le_bytes, les_at}
+
+-- the job that ran last as a number: a row by its place, 16 the first firm job, 17 nobody
+
+-- of a number
+abbrev pub last_named : ℕ → Last
+last_named k = cond (nat_lt k 16) (Hard k) (cond (k == 16) Firm Nobody)
+
+-- its number
+abbrev pub last_number : Last → ℕ
+last_number (Hard i) = i
+last_number Firm = 16
+last_number Nobody = 17
 
 -- read
 
@@ -23,7 +37,7 @@ state_at b = record {
   next = le 4 b next_at;
   «open» = le 2 b open_at;
   rested = le 2 b rested_at;
-  last = entry b last_at;
+  last = last_named (entry b last_at);
   count = entry b count_at;
   run = les_at 2 b run_at 16;
   stamp = les_at 4 b stamp_at 16;
@@ -36,7 +50,7 @@ state_at b = record {
 
 -- from count_at: how many firm jobs, and the last runner
 abbrev pub marks_bytes : State → List ℕ
-marks_bytes s = s.count % 256 ∷ s.last % 256 ∷ []
+marks_bytes s = s.count % 256 ∷ last_number s.last % 256 ∷ []
 
 -- from clock_at: the clock, the next ticket, the open rows, the rested rows
 abbrev pub numbers_bytes : State → List ℕ

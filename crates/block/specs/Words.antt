@@ -20,10 +20,11 @@ les_at w = numbers_at (le w) w
 
 -- the bytes
 
--- of a number below 2^(8 w), w of them
+-- the w bytes of a number below 2^(8 w), the low one first
 abbrev pub le_bytes : ℕ → ℕ → List ℕ
 le_bytes zero x = []
-le_bytes (suc w) x = x % 256 ∷ le_bytes w (x / 256)
+le_bytes (suc zero) x = x ∷ []
+le_bytes (suc (suc w)) x = x % 256 ∷ le_bytes (suc w) (x / 256)
 
 -- of numbers, one after the other
 unfoldable pub joined : {A : Type 0} → (A → List ℕ) → List A → List ℕ

@@ -61,7 +61,7 @@ fn queue_good(b: &Block, count: usize, last: usize) -> bool
     ensures { result ≡ queue_good b.now count last }
 {
     let queued = known_rows(count);
-    let first = since(u32::get(b, places::NEXT_AT), count as u32);
+    let first = since(u32::get(b, places::NEXT_AT), count as u32); // as: u32 has no From<usize>
     firms_good(b, queued, firm_mark(last)) & tickets_good(b, queued, first)
 }
 
@@ -71,7 +71,7 @@ fn rest_good(b: &Block, count: usize, last: usize) -> bool
     last_good(b, last, u16::get(b, places::OPEN_AT), count) & free_good(b)
 }
 
-// The last runner as a set of rows, and as a set of firm jobs, of which only the first can be it.
+// The last runner as a set of rows, and as a set of firm jobs, of which only the first can be it. Each cuts the other's bits off.
 fn row_mark(last: usize) -> u16
     ensures { result ≡ row_mark last }
 {
@@ -128,6 +128,7 @@ fn most_run(ran: bool, budget: u16) -> u16
     budget.saturating_sub(pick(ran, 0, 1))
 }
 
+// Of one row. Its numbers are read one by one where this is called, once: a struct of them would say no more.
 fn hard_fault(
     live: bool,
     open: bool,
@@ -217,13 +218,14 @@ fn tickets_good(b: &Block, queued: u16, first: u32) -> bool
 {
     let mut x = 0;
     for i in 0..8 {
+        // as: u32 has no From<usize>, and i is below 8.
         let due = pick(has(u32::from(queued), i), first.wrapping_add(i as u32), 0);
         x |= u32::get(b, places::TICKET_AT + 4 * i) ^ due;
     }
     x == 0
 }
 
-// The last runner, if a job, is open and has run.
+// The last runner, if a job, is open and has run. By the number in the block, not by a Last: 18 and above, which name nobody, are refused.
 fn last_good(b: &Block, last: usize, open: u16, count: usize) -> bool
     ensures { result ≡ last_good b.now last «open» count }
 {

@@ -2,11 +2,11 @@
 ghost use Rattle.std.specs.Prelude.{◌≡◌};
 ghost use Rattle.block.specs.Places.{C_at, M_at, block_bytes, budget_at, clock_at, count_at, free_at, n_at, rank_at, reserved_at, run_at};
 ghost use Rattle.block.specs.Words.{Put};
-ghost use Rattle.block.specs.Layout.{head_bytes, marks_bytes, numbers_bytes, table_bytes, jobs_bytes, queue_bytes, reserved, image_of, state_on};
+ghost use Rattle.block.specs.Layout.{head_bytes, last_number, marks_bytes, numbers_bytes, table_bytes, jobs_bytes, queue_bytes, reserved, image_of, state_on};
 
 use crate::places;
 use crate::words::{self, Block, Number};
-use state::{Rows, State};
+use state::{Last, Rows, State};
 
 pub fn put_image(rows: Rows, s: State, b: &mut Block)
     ensures { b.new ≡ image_of rows s }
@@ -30,6 +30,7 @@ pub fn put_state(s: State, b: &mut Block)
     put_queue(s, b);
 }
 
+// n, count and the number of the last job are below 256 in every image; of other states what doesn't fit is cut off, by % before `as`.
 fn put_head(n: usize, s: State, b: &mut Block)
     ensures { Put b.old b.new (head_bytes n s) n_at C_at }
 {
@@ -39,11 +40,22 @@ fn put_head(n: usize, s: State, b: &mut Block)
     put_numbers(s, b);
 }
 
+// The number that stands for the job that ran last; no From, see last_named.
+fn last_number(last: Last) -> usize
+    ensures { result ≡ last_number last }
+{
+    match last {
+        Last::Hard(row) => row,
+        Last::Firm => 16,
+        Last::Nobody => 17,
+    }
+}
+
 fn put_marks(s: State, b: &mut Block)
     ensures { Put b.old b.new (marks_bytes s) count_at free_at }
 {
     b[places::COUNT_AT] = (s.count % 256) as u8;
-    b[places::LAST_AT] = (s.last % 256) as u8;
+    b[places::LAST_AT] = (last_number(s.last) % 256) as u8;
 }
 
 fn put_numbers(s: State, b: &mut Block)

@@ -13,9 +13,10 @@ use refusal::Refusal;
 use table::{FileRefusal, PlannedTable};
 use wire::Part;
 
+// What C gets is in numbers, kinds and refusals too, each answer in a struct of its own.
 // refusal: 0, or the documents' number. row: of 6 to 10, 21 and 22, else 0. from, size: the shown part of the table file, of 1 to 10, 21 and 22, else 0.
 #[repr(C)]
-#[derive(Default, Drop)]
+#[derive(Clone, Copy, Default)]
 pub struct PlanAnswer {
     pub from: usize,
     pub size: usize,
@@ -27,7 +28,7 @@ pub struct PlanAnswer {
 // runner: 1 hard, with its row and band (1 upper, 2 lower), 2 firm, with its ticket, 3 soft, 4 idle.
 // closed: 0 nothing, 1 hard, with its row, 2 firm, with its ticket; closing: 1 done, 2 spent. A refusal has 0 in every other field.
 #[repr(C)]
-#[derive(Default, Drop)]
+#[derive(Clone, Copy, Default)]
 pub struct TickAnswer {
     pub clock: u32,
     pub ticket: u32,
@@ -46,7 +47,7 @@ pub struct TickAnswer {
 
 // refusal: 0, or document 01's number, and then ticket is 0.
 #[repr(C)]
-#[derive(Default, Drop)]
+#[derive(Clone, Copy, Default)]
 pub struct OfferAnswer {
     pub ticket: u32,
     pub refusal: u8,
@@ -54,7 +55,7 @@ pub struct OfferAnswer {
 
 // refusal: 0, or document 01's number, and then size is 0.
 #[repr(C)]
-#[derive(Default, Drop)]
+#[derive(Clone, Copy, Default)]
 pub struct TableAnswer {
     pub size: usize,
     pub refusal: u8,
@@ -121,6 +122,7 @@ pub extern "C" fn heechstjer_offer(block: &mut [u8], budget: u16, deadline: u16)
     };
     let mut queued = decoded.state;
     let offered = offer::offer(&decoded.rows, &mut queued, budget, deadline);
+    // let .. else, the form that document 01's list has here (docs/DECISIONS.md), so unwrap_err.
     let Ok(ticket) = offered else {
         return refused_offer(offered.unwrap_err());
     };
@@ -144,6 +146,7 @@ pub extern "C" fn heechstjer_table(block: &[u8], out: &mut [u8]) -> TableAnswer
     }
 }
 
+// A refusal in the struct of each call, of which C has one for each.
 fn refused_plan(refusal: FileRefusal) -> PlanAnswer
     ensures { result ≡ refused_plan (number_of refusal.why) (unwrap_or refusal.row 0) refusal.part.from refusal.part.size }
 {
@@ -182,6 +185,7 @@ fn refused_table(why: Refusal) -> TableAnswer
     }
 }
 
+// Bit 0 and bit 1, as event tests those of a file: a type for both would stand in wire, which is about files, and say no more.
 fn done_flag(flags: u8) -> bool
     ensures { result ≡ done_flag flags }
 {

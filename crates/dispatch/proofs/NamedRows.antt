@@ -1,8 +1,10 @@
 -- Whatever the arrays hold, the rows that a tick's answer names are below 16. Assumes nothing.
-use Rattle.std.proofs.Common.{◌≡◌, ℕ, zero, suc, ◌+◌, ◌<◌, ◌≤◌, Bool, true, false, cond, eqb, ltb, List, Option, None, Some, sym, refl, subst, arith, ltb-true}
+use Rattle.std.proofs.Common.{◌≡◌, ℕ, zero, suc, ◌+◌, ◌<◌, ◌≤◌, Bool, true, false, cond, ltb, List, Option, None, Some, sym, refl, subst, arith, ltb-true}
 use Rattle.std.specs.Prelude.{⊤}
 use Rattle.std.specs.Option.{option_map_or}
 use Rattle.rules.specs.Tick.{bit}
+use Rattle.state.specs.declared.Last.{Last}
+use Rattle.state.specs.declared.Last.TheVariants as ran
 use Rattle.state.specs.declared.Rows.{Rows}
 use Rattle.state.specs.declared.State.{State}
 use Rattle.state.specs.Meaning.{entry}
@@ -17,19 +19,25 @@ use Rattle.answer.specs.declared.Band.TheVariants.{Upper}
 use Rattle.answer.specs.Below.{AnswerBelow, ClosingBelow, RunnerBelow}
 use Rattle.dispatch.specs.declared.sets.Best.{Best}
 use Rattle.dispatch.specs.Loops.{better, fold_rows, low_at}
-use Rattle.dispatch.specs.Steps.{chosen_in, closes_in, closing_in, lower_of, promoted_rows, released_by, stepped_in, tick_in}
+use Rattle.dispatch.specs.Steps.{chosen_in, closes_in, closing_after, closing_in, lower_of, promoted_rows, released_by, stepped_in, tick_in}
 
 closing_below : (rows : Rows) (s : State) (d : Bool) → ClosingBelow (closing_in rows s d)
-closing_below rows s d =
-    go (ltb s.last 16) refl (eqb s.last 16) (closes_in d (entry s.run s.last) (entry rows.table.c s.last)) (closes_in d (entry s.used 0) (entry s.budget 0))
+unfolding closing_after
+closing_below rows s d = go s.last
   where
-    go : (hard : Bool) → ltb s.last 16 ≡ hard → (firm : Bool) (job first : Option How)
-        → ClosingBelow (cond hard (option_map_or (Hard s.last) job Nothing) (cond firm (option_map_or (Firm (entry s.ticket 0)) first Nothing) Nothing))
-    go true e firm None first = tt
-    go true e firm (Some how) first = ltb-true s.last 16 e
-    go false e true job None = tt
-    go false e true job (Some how) = tt
-    go false e false job first = tt
+    row : (i : ℕ) (low : Bool) → ltb i 16 ≡ low → (how : Option How) → ClosingBelow (cond low (option_map_or (Hard i) how Nothing) Nothing)
+    row i true e None = tt
+    row i true e (Some how) = ltb-true i 16 e
+    row i false e how = tt
+
+    first : (how : Option How) → ClosingBelow (option_map_or (Firm (entry s.ticket 0)) how Nothing)
+    first None = tt
+    first (Some how) = tt
+
+    go : (l : Last) → ClosingBelow (closing_after rows s d l)
+    go (ran.Hard i) = row i (ltb i 16) refl (closes_in d (entry s.run i) (entry rows.table.c i))
+    go ran.Firm = first (closes_in d (entry s.used 0) (entry s.budget 0))
+    go ran.Nobody = tt
 
 -- the best row so far, if there is one
 abbrev BestBelow : Option Best → Type 0
@@ -44,7 +52,11 @@ low_below rank set i best l h = go (bit set i) best h
     lower false yet h = h
 
     go : (among : Bool) (best : Option Best) → BestBelow best → BestBelow (cond among (better (entry rank i) i best) best)
-    go true None h = l
+    go true None h = first (ltb (entry rank i) 256)
+      where
+        first : (b : Bool) → BestBelow (cond b (Some (record { rank = entry rank i; row = i })) None)
+        first true = l
+        first false = tt
     go true (Some yet) h = lower (ltb (entry rank i) yet.rank) yet h
     go false best h = h
 

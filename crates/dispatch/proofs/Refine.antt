@@ -1,11 +1,11 @@
 -- The tick in memory is the rules' tick: on every state that a block may hold, and for every call. Assumes nothing.
-use Rattle.std.proofs.Common.{◌≡◌, ℕ, suc, ◌-◌, ◌^◌, ◌<◌, ◌≤◌, Bool, true, false, cond, not, ◌&&◌, ◌||◌, eqb, ltb, ◌∷◌, length, sym, refl, ap, ◌∙◌, subst, ap₂, lt_of_le_of_lt, zero-add, arith, ltb-false, ltb-true, le-ltb, lt-ltb, eq-eqb, ne_eqb, eqb-true}
+use Rattle.std.proofs.Common.{◌≡◌, ℕ, suc, ◌-◌, ◌^◌, ◌<◌, ◌≤◌, Bool, true, false, cond, not, ◌&&◌, ◌||◌, eqb, ltb, ◌∷◌, length, sym, refl, ap, ◌∙◌, subst, ap₂, lt_of_le_of_lt, zero-add, arith, le-ltb, lt-ltb, eq-eqb, ne_eqb}
 use native.Mathlib.Decide.{dec_lt}
 use lib.Bits.{and_le_l, bit_and, or_lt}
 use lib.ListN.{get_elem?}
-use borrow.Author.Tests.{eqb-false, not-true}
+use borrow.Author.Tests.{lt-leb, not-true}
 use Rattle.rules.specs.Lists.{All}
-use Rattle.rules.specs.Station.{Station, closed, firm_of, is_open, nobody, opened, rested, row_at}
+use Rattle.rules.specs.Station.{Station, closed, is_open, opened, rested}
 use Rattle.rules.specs.Tick.{bit, choose, close, none_ran, notes_of, opens, release, released, tick, unknown_bits, unready}
 use Rattle.rules.specs.Tick as rules
 use Rattle.rules.proofs.Bits.{bit_above, same_bits, set_at, set_past}
@@ -18,9 +18,11 @@ use Rattle.rules.proofs.Queue.{Other}
 use Rattle.rules.proofs.Tick.{released_unspent}
 use Rattle.rules.proofs.Tickets.{close_tickets}
 use Rattle.rules.proofs.Walks.{all_both, each_all}
+use Rattle.state.specs.declared.Last.{Last}
+use Rattle.state.specs.declared.Last.TheVariants as ran
 use Rattle.state.specs.declared.Rows.{Rows}
 use Rattle.state.specs.declared.State.{State}
-use Rattle.state.specs.Meaning.{Kept, Stored, entry, firm_at, last_of, rows_from, slot_at, slots_of, station_of, wrapped}
+use Rattle.state.specs.Meaning.{Kept, LastBelow, Stored, entry, firm_at, last_of, last_with, rows_from, slot_at, slots_of, station_of, wrapped}
 use Rattle.state.specs.Sets.{known, others}
 use Rattle.state.proofs.Agrees.{Agrees}
 use Rattle.state.proofs.Bits.{bit_of_and, bit_known, bit_of_or, bit_others, known_lt}
@@ -30,7 +32,7 @@ use Rattle.state.proofs.Bools.{leb_ltb}
 use Rattle.answer.specs.Answers.{answer_of, runner_of}
 use Rattle.answer.specs.Answers as answers
 use Rattle.dispatch.specs.Refines.{TickRefines}
-use Rattle.dispatch.specs.Steps.{Ticked, advanced, asked_in, closed_by, closing_in, notes_in, ran_in, ready_in, released_by, stepped_in, tick_in, unready_in}
+use Rattle.dispatch.specs.Steps.{Ticked, advanced, asked_in, closed_by, closing_in, nobody_ran, notes_in, ran_in, ready_in, released_by, stepped_in, tick_in, unready_in}
 use Rattle.dispatch.proofs.Arrays.{bit_minus}
 use Rattle.dispatch.proofs.RefineChoose.{choose_refines}
 use Rattle.dispatch.proofs.RefineClose.{close_refines, first_others}
@@ -64,17 +66,13 @@ module _ (rows : Rows) (s : State) (S : Stored rows s) (set : ℕ) (small : set 
       bit_unknown j ∙ sym (bit_above (length (slots_of rows s)) set j ∙ rw (length_rows (slot_at rows s) 0 rows.table.n, leb_ltb rows.table.n j)))
 
   -- 13
-  none_ran_is : (d : Bool) → none_ran (last_of s) d ≡ (d && ltb 16 s.last)
-  none_ran_is d = go (ltb s.last 16) refl (eqb s.last 16) refl
+  none_ran_is : (d : Bool) → none_ran (last_of s) d ≡ (d && nobody_ran s.last)
+  none_ran_is d = go s.last S.kept.last_below
     where
-      go : (a : Bool) → ltb s.last 16 ≡ a → (b : Bool) → eqb s.last 16 ≡ b
-          → none_ran (cond a (row_at s.last) (cond b (firm_of (entry s.ticket 0)) nobody)) d ≡ (d && ltb 16 s.last)
-      go true p b q = let l : s.last < 16 = ltb-true s.last 16 p in rw (le-ltb 16 s.last (omega arith)) (sym (and_no d))
-      go false p true q = let l : s.last ≡ 16 = eqb-true s.last 16 q in rw (le-ltb 16 s.last (omega arith)) (sym (and_no d))
-      go false p false q =
-          let l : 16 ≤ s.last = ltb-false s.last 16 p in
-          let n : s.last ≡ 16 → ⊥ = eqb-false s.last 16 q in
-          rw (lt-ltb 16 s.last (omega arith)) (sym (and_yes d))
+      go : (l : Last) → LastBelow l → none_ran (last_with (entry s.ticket 0) l) d ≡ (d && nobody_ran l)
+      go (ran.Hard i) h = rw (lt-leb 16 i h, lt-ltb i 16 h) (sym (and_no d))
+      go ran.Firm h = sym (and_no d)
+      go ran.Nobody h = sym (and_yes d)
 
   module _ (d : Bool) where
     abbrev c : Station

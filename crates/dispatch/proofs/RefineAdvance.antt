@@ -88,5 +88,5 @@ module _ (rows : Rows) (s : State) (K : Kept rows s) (thin : (i : ℕ) → i < r
     };
     jobs = K.jobs;
     queue = K.queue;
-    last_le = K.last_le;
+    last_below = K.last_below;
   }

@@ -36,9 +36,9 @@ abbrev as_best : Memory.Option Best → Option (ℕ × ℕ)
 as_best None = none
 as_best (Some b) = some (b.row, b.rank)
 
-better_is : (rank i : ℕ) (b : Memory.Option Best) (x : Slot) → x.row.rank ≡ rank → rules.better (as_best b) i x ≡ as_best (better rank i b)
-better_is rank i None x e = rw e
-better_is rank i (Some b) x e = rw e (go (ltb rank b.rank))
+better_is : (rank i : ℕ) (b : Memory.Option Best) (x : Slot) → rank < 256 → x.row.rank ≡ rank → rules.better (as_best b) i x ≡ as_best (better rank i b)
+better_is rank i None x h e = rw (e, lt-ltb rank 256 h)
+better_is rank i (Some b) x h e = rw e (go (ltb rank b.rank))
   where
     go : (t : Bool) → cond t (some (i, rank)) (some (b.row, b.rank)) ≡ as_best (Some (cond t (record { rank = rank; row = i }) b))
     go true = refl
@@ -81,7 +81,7 @@ module _ (rows : Rows) (s : State) (K : Kept rows s) (U_le : (i : ℕ) → i < r
     low_is j h b = rw (unpromoted_is j h) (go (bit s.«open» j))
       where
         go : (o : Bool) → cond o (rules.better (as_best b) j (slot_at rows s j)) (as_best b) ≡ as_best (cond o (better (entry rows.table.rank j) j b) b)
-        go true = better_is (entry rows.table.rank j) j b (slot_at rows s j) refl
+        go true = better_is (entry rows.table.rank j) j b (slot_at rows s j) (K.table.rank_lt j) refl
         go false = refl
 
     lowest_is : (i k : ℕ) (b : Memory.Option Best) → i + k ≤ rows.table.n → lowest (as_best b) i (rows_from (slot_at rows s) i k) ≡ as_best (fold_rows (low_at rows.table.rank s.«open») i k b)

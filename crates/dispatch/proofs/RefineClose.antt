@@ -1,5 +1,5 @@
 -- Step 1 in memory is step 1 of the rules: what closes, and the state after it. Assumes nothing.
-use Rattle.std.proofs.Common.{◌≡◌, ℕ, zero, suc, ◌-◌, ◌^◌, ◌<◌, ◌≤◌, Bool, true, false, cond, not, ◌&&◌, eqb, ltb, leb, List, ◌∷◌, length, set, sym, refl, ◌∙◌, true≢false, lt_of_le_of_lt, arith, length-set, ltb-true, lt-ltb, eq-eqb}
+use Rattle.std.proofs.Common.{◌≡◌, ℕ, zero, suc, ◌-◌, ◌^◌, ◌<◌, ◌≤◌, Bool, true, false, cond, not, ◌&&◌, eqb, leb, List, ◌∷◌, length, set, sym, refl, ◌∙◌, true≢false, lt_of_le_of_lt, arith, length-set, lt-ltb, eq-eqb}
 use Rattle.std.proofs.Math.Bool.{or-false}
 use Rattle.std.specs.Prelude.{Some}
 use Rattle.std.specs.Bool.{then_some}
@@ -8,16 +8,18 @@ use mathlib.Core.Option.{some}
 use lib.Bits.{bit_and, and_le_l}
 use lib.Pow.{pow-lt}
 use Rattle.rules.specs.Lists.{All}
-use Rattle.rules.specs.Station.{Firm, Slot, Station, closed, firm_of, nobody, opened, row_at}
+use Rattle.rules.specs.Station.{Firm, Slot, Station, closed, firm_of, opened}
 use Rattle.rules.specs.Tick.{Closed, How, bit, close, close_firm, close_last, close_row, closes_as, done, full_at, full_of, fully_run, shut, shut_at, spent, without}
-use Rattle.rules.proofs.Facts.{FirstIs, HasRun, TicketsTo}
+use Rattle.rules.proofs.Facts.{FirstIs, HasRun, LastRan, TicketsTo}
 use Rattle.rules.proofs.Image.{Image}
 use Rattle.rules.proofs.Queue.{Other, others_not_full}
 use Rattle.rules.proofs.Tickets.{behind, without_others}
 use Rattle.rules.proofs.Walks.{Holds}
+use Rattle.state.specs.declared.Last.{Last}
+use Rattle.state.specs.declared.Last.TheVariants as ran
 use Rattle.state.specs.declared.Rows.{Rows}
 use Rattle.state.specs.declared.State.{State}
-use Rattle.state.specs.Meaning.{Kept, Stored, entry, firm_at, firms_of, rows_from, slot_at, slots_of, station_of}
+use Rattle.state.specs.Meaning.{Kept, LastBelow, Stored, entry, firm_at, firms_of, last_with, rows_from, slot_at, slots_of, station_of}
 use Rattle.state.specs.Sets.{others}
 use Rattle.state.proofs.Agrees.{Agrees}
 use Rattle.state.proofs.Bits.{bit_one}
@@ -28,7 +30,7 @@ use Rattle.answer.specs.declared.Closing.TheVariants as closing
 use Rattle.answer.specs.declared.Closing.TheVariants.{Nothing, Hard}
 use Rattle.answer.specs.declared.How.TheVariants.{Done, Spent}
 use Rattle.answer.specs.Answers.{closing_of}
-use Rattle.dispatch.specs.Steps.{closed_by, closes_in, closing_in, popped, shut_row}
+use Rattle.dispatch.specs.Steps.{closed_by, closing_after, closing_in, popped, shut_row}
 use Rattle.dispatch.proofs.Arrays.{bit_minus, set_at, shift_at}
 
 -- a hard job closes
@@ -78,7 +80,7 @@ module _ (rows : Rows) (s : State) (K : Kept rows s) (i : ℕ) (h : i < 16) wher
       run_blank = λ j e. rw (run_shut j) (blank (bit s.«open» j) (eqb j i) (entry s.run j) (K.jobs.run_blank j) (sym (bit_shut j) ∙ e));
     };
     queue = K.queue;
-    last_le = K.last_le;
+    last_below = K.last_below;
   })
 
 -- the first firm job closes
@@ -100,7 +102,7 @@ module _ (rows : Rows) (s : State) (K : Kept rows s) where
       past = λ j l.
           rw (shift_at s.ticket K.queue.tickets j, shift_at s.budget K.queue.budgets j, shift_at s.used K.queue.useds j) (K.queue.past (suc j) (omega arith));
     };
-    last_le = K.last_le;
+    last_below = K.last_below;
   }
 
 -- the queue of the rules, whose tickets are consecutive
@@ -133,30 +135,26 @@ module _ (rows : Rows) (s : State) (S : Stored rows s) where
 
   -- a row
 
-  shut_agrees : (how : How) → s.last < 16 → Agrees rows (shut_row s s.last) (close_row st s.last (some how)).station
+  shut_agrees : (i : ℕ) → i < 16 → (how : How) → Agrees rows (shut_row s i) (close_row st i (some how)).station
   unfolding station_of
-  shut_agrees how h =
-      let e = shut_slots rows s S.kept s.last h in
-      rw (lt-ltb s.last 16 h) (record { clock_is = refl; slots_is = rw (lt-ltb s.last 16 h) at e; firms_is = refl; next_is = refl })
+  shut_agrees i h how =
+      let e = shut_slots rows s S.kept i h in
+      rw (lt-ltb i 16 h) (record { clock_is = refl; slots_is = rw (lt-ltb i 16 h) at e; firms_is = refl; next_is = refl })
 
-  row_closes : s.last < 16 → (d b : Bool) → Closes rows s (option_map_or (Hard s.last) (cond d (Some Done) (then_some b Spent)) Nothing) (close_row st s.last (closes_as d b))
-  row_closes h true b = (refl, shut_agrees done h, shut_kept rows s S.kept s.last h)
-  row_closes h false true = (refl, shut_agrees spent h, shut_kept rows s S.kept s.last h)
-  row_closes h false false = (refl, as_is, S.kept)
-
-  has_run : ltb s.last 16 ≡ true → Holds HasRun s.last 0 (slots_of rows s)
-  unfolding station_of
-  has_run e = rw e at I.last_ran
+  row_closes : (i : ℕ) → i < 16 → (d b : Bool) → Closes rows s (option_map_or (Hard i) (cond d (Some Done) (then_some b Spent)) Nothing) (close_row st i (closes_as d b))
+  row_closes i h true b = (refl, shut_agrees i h done, shut_kept rows s S.kept i h)
+  row_closes i h false true = (refl, shut_agrees i h spent, shut_kept rows s S.kept i h)
+  row_closes i h false false = (refl, as_is, S.kept)
 
   open_job : (b : Bool) (r q : ℕ) → cond b (opened r) closed ≡ opened q → b ≡ true
   open_job true r q e = refl
   open_job false r q e = let z : ◌≡◌ {A = ℕ} 0 1 = cc in absurd (omega arith)
 
-  row_full : ltb s.last 16 ≡ true → full_at s.last (slots_of rows s) ≡ leb (entry rows.table.c s.last) (entry s.run s.last)
-  row_full e =
-      let (l, (r, q)) = holds_rows HasRun (slot_at rows s) s.last 0 rows.table.n (has_run e) in
-      any_rows (λ x. fully_run x.row.C x.job) (slot_at rows s) s.last 0 rows.table.n (omega arith) l
-      ∙ rw (open_job (bit s.«open» s.last) (entry s.run s.last) (suc r) q)
+  row_full : (i : ℕ) → Holds HasRun i 0 (slots_of rows s) → full_at i (slots_of rows s) ≡ leb (entry rows.table.c i) (entry s.run i)
+  row_full i H =
+      let (l, (r, q)) = holds_rows HasRun (slot_at rows s) i 0 rows.table.n H in
+      any_rows (λ x. fully_run x.row.C x.job) (slot_at rows s) i 0 rows.table.n (omega arith) l
+      ∙ rw (open_job (bit s.«open» i) (entry s.run i) (suc r) q)
 
   -- the first firm job
 
@@ -199,22 +197,13 @@ module _ (rows : Rows) (s : State) (S : Stored rows s) where
   queued (suc m) e F = (m, e)
 
   pub close_refines : (d : Bool) → Closes rows s (closing_in rows s d) (close st d)
-  unfolding station_of
-  close_refines d = row (ltb s.last 16) refl
+  unfolding station_of closing_after
+  close_refines d = go s.last S.kept.last_below I.last_ran I.tickets.first
     where
-      firm : (b : Bool) → ltb s.last 16 ≡ false → eqb s.last 16 ≡ b
-          → Closes rows s (cond b (option_map_or (closing.Firm first.ticket) (closes_in d (entry s.used 0) (entry s.budget 0)) Nothing) Nothing)
-          (close_last st d (cond b (firm_of first.ticket) nobody))
-      firm true e q =
-          let (k, c) = queued s.count refl (rw (e, q) at I.tickets.first) in
+      go : (l : Last) → LastBelow l → LastRan (last_with first.ticket l) (slots_of rows s) (firms_of s) → FirstIs (last_with first.ticket l) (firms_of s)
+          → Closes rows s (closing_after rows s d l) (close_last st d (last_with first.ticket l))
+      go (ran.Hard i) h r f = let below = lt-ltb i 16 h in rw (below, row_full i (rw below at r)) (row_closes i h d (leb (entry rows.table.c i) (entry s.run i)))
+      go ran.Firm h r f =
+          let (k, c) = queued s.count refl f in
           rw (firm_full k c) (firm_closes k c d (leb (entry s.budget 0) (entry s.used 0)))
-      firm false e q = (refl, as_is, S.kept)
-
-      row : (b : Bool) → ltb s.last 16 ≡ b
-          → Closes rows s
-          (cond b
-          (option_map_or (Hard s.last) (closes_in d (entry s.run s.last) (entry rows.table.c s.last)) Nothing)
-          (cond (eqb s.last 16) (option_map_or (closing.Firm first.ticket) (closes_in d (entry s.used 0) (entry s.budget 0)) Nothing) Nothing))
-          (close_last st d (cond b (row_at s.last) (cond (eqb s.last 16) (firm_of first.ticket) nobody)))
-      row true e = rw (row_full e) (row_closes (ltb-true s.last 16 e) d (leb (entry rows.table.c s.last) (entry s.run s.last)))
-      row false e = firm (eqb s.last 16) e refl
+      go ran.Nobody h r f = (refl, as_is, S.kept)

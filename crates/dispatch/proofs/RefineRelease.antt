@@ -78,5 +78,5 @@ module _ (rows : Rows) (s : State) (K : Kept rows s) (set : ℕ) (small : set < 
       run_blank = λ i e. K.jobs.run_blank i (or_false (bit s.«open» i) (bit set i) (sym (bit_of_or s.«open» set i) ∙ e)).0;
     };
     queue = K.queue;
-    last_le = K.last_le;
+    last_below = K.last_below;
   }

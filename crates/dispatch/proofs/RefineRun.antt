@@ -7,6 +7,7 @@ use Rattle.rules.specs.Tick as rules
 use Rattle.rules.proofs.Choose.{IsOpen, best_open, found_open, on_choose}
 use Rattle.rules.proofs.Queue.{Other}
 use Rattle.rules.proofs.Walks.{Holds}
+use Rattle.state.specs.declared.Last.TheVariants.{Hard}
 use Rattle.state.specs.declared.Rows.{Rows}
 use Rattle.state.specs.declared.State.{State}
 use Rattle.state.specs.Meaning.{Kept, entry, firm_at, firms_of, job_at, rows_from, slot_at, slots_of, station_of}
@@ -49,7 +50,7 @@ module _ (rows : Rows) (s : State) (K : Kept rows s) (thin : (i : ℕ) → i < r
 
     module _ (i : ℕ) (known : i < rows.table.n) (still_open : bit s.«open» i ≡ true) where
       abbrev after : State
-      after = reworked s s.«open» i (set s.run i (bumped (entry s.run i))) s.count s.budget s.used s.ticket
+      after = reworked s s.«open» (Hard i) (set s.run i (bumped (entry s.run i))) s.count s.budget s.used s.ticket
 
       low : i < 16
       low = omega (arith, K.table.few)
@@ -82,20 +83,20 @@ module _ (rows : Rows) (s : State) (K : Kept rows s) (thin : (i : ℕ) → i < r
           run_blank = closed_blank;
         };
         queue = K.queue;
-        last_le = omega (arith, low);
+        last_below = low;
       }
 
       row_runs : (band : rules.Band) → Runs c (hard i band)
       row_runs band = rw after_is (
         station_is rows (advanced rows after) (suc c.clock % 2 ^ 32) (rules.pass_rows (row_at i) (slots_of rows s)) (pass_firms (row_at i) c.firms) c.next (row_at i)
-            clock_next (pass_slots rows after after_kept thin s (row_at i) (λ j. (refl, job_is j))) (queue_waits (row_at i) (λ u. refl)) next_is (rw (lt-ltb i 16 low)),
+            clock_next (pass_slots rows after after_kept thin s (row_at i) (λ j. (refl, job_is j))) (queue_waits (row_at i) (λ u. refl)) next_is (rw (lt-ltb i 16 low) refl),
         advance_kept rows after after_kept thin,
       )
 
     -- nobody runs
 
     none_kept : Kept rows (ran_none s)
-    none_kept = record { table = K.table; times = K.times; jobs = K.jobs; queue = K.queue; last_le = omega arith }
+    none_kept = record { table = K.table; times = K.times; jobs = K.jobs; queue = K.queue; last_below = tt }
 
     none_runs : (station_of rows (advanced rows (ran_none s)) ≡ run c (slots_of rows s) idle) × Kept rows (advanced rows (ran_none s))
     none_runs = (
@@ -128,7 +129,7 @@ module _ (rows : Rows) (s : State) (K : Kept rows s) (thin : (i : ℕ) → i < r
           tickets = K.queue.tickets;
           past = λ j h. let z = K.queue.past j h in (z.0, z.1, behind_first j (omega arith) ∙ z.2);
         };
-        last_le = omega arith;
+        last_below = tt;
       }
 
       queue_is : firms_of s ≡ firm_at s 0 ∷ rows_from (firm_at s) 1 k

@@ -34,9 +34,9 @@ aged_at ticks stamp clock i = nat_le (entry ticks i) (wrapped clock (entry stamp
 abbrev pub lowest_in : ℕ → Option ℕ
 lowest_in set = then_some (nat_lt (least set) 16) (least set)
 
--- the better of the row and the best so far
+-- the better of the row and the best so far; a rank is a byte
 abbrev pub better : ℕ → ℕ → Option Best → Option Best
-better rank i None = Some (record { rank = rank; row = i })
+better rank i None = cond (nat_lt rank 256) (Some (record { rank = rank; row = i })) None
 better rank i (Some best) = Some (cond (nat_lt rank best.rank) (record { rank = rank; row = i }) best)
 
 -- the row at i, if it is in the set

@@ -1,7 +1,9 @@
 -- What the steps of the tick compute on the arrays, close to the code. Assumes nothing.
-use Rattle.std.specs.Prelude.{ℕ, ◌+◌, ◌-◌, ◌%◌, ◌^◌, Bool, cond, ◌&&◌, List, [], ◌∷◌, Option, None, Some, set, slice_index_or, ◌==◌, bit_and, bit_or, nat_le, nat_lt}
+use Rattle.std.specs.Prelude.{ℕ, ◌+◌, ◌-◌, ◌%◌, ◌^◌, Bool, true, false, cond, ◌&&◌, List, [], ◌∷◌, Option, None, Some, set, slice_index_or, bit_and, bit_or, nat_le, nat_lt}
 use Rattle.std.specs.Bool.{then_some}
 use Rattle.std.specs.Option.{option_map_or}
+use Rattle.state.specs.declared.Last.{Last}
+use Rattle.state.specs.declared.Last.TheVariants.{Hard, Firm, Nobody}
 use Rattle.state.specs.declared.Rows.{Rows}
 use Rattle.state.specs.declared.State.{State}
 use Rattle.state.specs.Meaning.{entry}
@@ -35,7 +37,7 @@ retimed s clock o rested stamp = record {
 }
 
 -- the state with these in place of its open rows, last runner, ticks run and firm jobs
-abbrev pub reworked : State → ℕ → ℕ → List ℕ → ℕ → List ℕ → List ℕ → List ℕ → State
+abbrev pub reworked : State → ℕ → Last → List ℕ → ℕ → List ℕ → List ℕ → List ℕ → State
 reworked s o last run count budget used ticket = record {
   clock = s.clock;
   next = s.next;
@@ -56,14 +58,15 @@ reworked s o last run count budget used ticket = record {
 abbrev pub closes_in : Bool → ℕ → ℕ → Option How
 closes_in d run ticks = cond d (Some Done) (then_some (nat_le ticks run) Spent)
 
--- what closes: the job of the last runner
+-- what closes where this is the job that ran last; a row of 16 or more counts as nobody
+unfoldable pub closing_after : Rows → State → Bool → Last → Closing
+closing_after rows s d (Hard i) = cond (nat_lt i 16) (option_map_or (Hard i) (closes_in d (entry s.run i) (entry rows.table.c i)) Nothing) Nothing
+closing_after rows s d Firm = option_map_or (Firm (entry s.ticket 0)) (closes_in d (entry s.used 0) (entry s.budget 0)) Nothing
+closing_after rows s d Nobody = Nothing
+
+-- what closes: the job that ran last
 abbrev pub closing_in : Rows → State → Bool → Closing
-closing_in rows s d =
-    cond (nat_lt s.last 16)
-    (option_map_or (Hard s.last) (closes_in d (entry s.run s.last) (entry rows.table.c s.last)) Nothing)
-    (cond (s.last == 16)
-    (option_map_or (Firm (entry s.ticket 0)) (closes_in d (entry s.used 0) (entry s.budget 0)) Nothing)
-    Nothing)
+closing_in rows s d = closing_after rows s d s.last
 
 -- the row at i without its job
 abbrev pub shut_row : State → ℕ → State
@@ -122,15 +125,15 @@ bumped x = cond (nat_lt x 65535) (x + 1) x
 
 -- the job of the row at i ran
 abbrev pub ran_row : State → ℕ → State
-ran_row s i = cond (nat_lt i 16) (reworked s s.«open» i (set s.run i (bumped (entry s.run i))) s.count s.budget s.used s.ticket) s
+ran_row s i = cond (nat_lt i 16) (reworked s s.«open» (Hard i) (set s.run i (bumped (entry s.run i))) s.count s.budget s.used s.ticket) s
 
 -- the first firm job ran
 abbrev pub ran_first : State → State
-ran_first s = reworked s s.«open» 16 s.run s.count s.budget (set s.used 0 (bumped (entry s.used 0))) s.ticket
+ran_first s = reworked s s.«open» Firm s.run s.count s.budget (set s.used 0 (bumped (entry s.used 0))) s.ticket
 
 -- no job ran
 abbrev pub ran_none : State → State
-ran_none s = reworked s s.«open» 17 s.run s.count s.budget s.used s.ticket
+ran_none s = reworked s s.«open» Nobody s.run s.count s.budget s.used s.ticket
 
 -- the runner ran
 abbrev pub ran_in : State → Runner → State
@@ -170,11 +173,17 @@ unready_in s = bit_or s.«open» (others s.rested)
 abbrev pub ready_in : Rows → State → ℕ → ℕ
 ready_in rows s set = bit_and (asked_in rows set) (others (unready_in s))
 
+-- no job ran last, or none of a row below 16
+abbrev pub nobody_ran : Last → Bool
+nobody_ran (Hard i) = nat_le 16 i
+nobody_ran Firm = false
+nobody_ran Nobody = true
+
 -- what is noted, where the closing has made t of s
 abbrev pub notes_in : Rows → State → State → ℕ → Bool → Notes
 notes_in rows s t set d = record {
   unknown = bit_and set (others (known rows.table.n));
-  none_ran = d && nat_lt 16 s.last;
+  none_ran = d && nobody_ran s.last;
   not_ready = bit_and (asked_in rows set) (unready_in t);
 }
 

@@ -24,7 +24,7 @@ pub fn tick(rows: &Rows, s: &mut State, set: u16, done: bool, soft: bool) -> Ans
     let unready = closed.open | !closed.rested;
     let notes = Notes {
         unknown: set & !known,
-        none_ran: done & (16 < s.last),
+        none_ran: done & steps::nobody_ran(s.last),
         not_ready: asked & unready,
     };
     let released = steps::release(closed, asked & !unready);

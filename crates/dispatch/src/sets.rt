@@ -50,8 +50,8 @@ fn better_of(rank: u8, row: usize, best: Option<Best>) -> Option<Best>
     }
 }
 
-// The row of the lowest rank in the set. From row to row of the set: over random sets, filter and min_by_key on all sixteen took a third more
-// instructions and mispredicted six times as many branches.
+// The row of the lowest rank in the set. The loop goes from row to row of the set: filter and min_by_key over all sixteen, counted in Rust over random sets, took two fifths more
+// instructions and mispredicted ten times as many branches.
 #[tactic(auto, using(crate::proofs::Lowest::left_lt, crate::proofs::Lowest::left_turn, crate::proofs::Lowest::low_none, crate::proofs::Lowest::no_row))]
 pub fn lowest_rank(rank: [u8; 16], set: u16) -> Option<Best>
     ensures { result ≡ fold_rows (low_at rank set) 0 16 None }

@@ -1,32 +1,43 @@
 // The steps of a tick: 1 close, 2 release, 3 choose, 4 run and advance.
 ghost use Rattle.std.specs.Prelude.{◌≡◌};
-ghost use Rattle.dispatch.specs.Steps.{advanced, chosen_in, closed_by, closes_in, closing_in, popped, promoted_rows, ran_first, ran_in, ran_none, ran_row, released_by, shifted_in, shut_row};
+ghost use Rattle.dispatch.specs.Steps.{advanced, chosen_in, closed_by, closes_in, closing_in, nobody_ran, popped, promoted_rows, ran_first, ran_in, ran_none, ran_row, released_by, shifted_in, shut_row};
 
 use crate::sets;
 use answer::{Band, Closing, How, Runner};
-use state::{Rows, State};
+use state::{Last, Rows, State};
 
-// What closes: the job of the last runner, or nothing. Arrays are taken out of their struct before a row indexes them, here and where they are changed below: a struct that is indexed
-// by a variable can't stay in registers.
+// What closes: the job that ran last, or nothing; a row of 16 or more counts as nobody. Arrays are taken out of their struct before a row
+// indexes them, here and where they are changed below: a struct that is indexed by a variable can't stay in registers.
+#[tactic(auto, unfolding(crate::specs::Steps::closing_after))]
 pub fn closing_of(rows: &Rows, s: &State, done: bool) -> Closing
     ensures { result ≡ closing_in rows.now s.now done }
 {
-    let last = s.last;
-    if last < 16 {
-        let run = s.run;
-        let c = rows.table.c;
-        return closes_as(done, run[last], c[last]).map_or(
-            Closing::Nothing,
-            |how| Closing::Hard(last, how),
-        );
-    }
-    if last == 16 {
-        return closes_as(done, s.used[0], s.budget[0]).map_or(
+    match s.last {
+        Last::Hard(row) if row < 16 => {
+            let run = s.run;
+            let c = rows.table.c;
+            closes_as(done, run[row], c[row]).map_or(
+                Closing::Nothing,
+                |how| Closing::Hard(row, how),
+            )
+        }
+        Last::Firm => closes_as(done, s.used[0], s.budget[0]).map_or(
             Closing::Nothing,
             |how| Closing::Firm(s.ticket[0], how),
-        );
+        ),
+        _ => Closing::Nothing,
     }
-    Closing::Nothing
+}
+
+// No job ran last, or none of a row below 16.
+pub fn nobody_ran(last: Last) -> bool
+    ensures { result ≡ nobody_ran last }
+{
+    match last {
+        Last::Hard(row) if row < 16 => false,
+        Last::Firm => false,
+        _ => true,
+    }
 }
 
 // How a job closes, if it does; ticks: its whole C or budget.
@@ -144,7 +155,11 @@ fn ran_row(s: State, i: usize) -> State
     }
     let mut run = s.run;
     run[i] = run[i].saturating_add(1);
-    State { last: i, run, ..s }
+    State {
+        last: Last::Hard(i),
+        run,
+        ..s
+    }
 }
 
 fn ran_first(s: State) -> State
@@ -153,7 +168,7 @@ fn ran_first(s: State) -> State
     let mut used = s.used;
     used[0] = used[0].saturating_add(1);
     State {
-        last: 16,
+        last: Last::Firm,
         used,
         ..s
     }
@@ -162,7 +177,10 @@ fn ran_first(s: State) -> State
 fn ran_none(s: State) -> State
     ensures { result ≡ ran_none s }
 {
-    State { last: 17, ..s }
+    State {
+        last: Last::Nobody,
+        ..s
+    }
 }
 
 // The clock advances by one, and the rows whose T has come are rested.

@@ -1,11 +1,13 @@
 -- What each answer of the code says in document 01's words: every case, with its values. Assumes nothing.
-use Rattle.std.specs.Prelude.{ℕ, ◌+◌, Option, Some, None, Result, Ok, Err}
+use Rattle.std.specs.Prelude.{ℕ, ◌+◌, cond, List, Option, Some, None, Result, Ok, Err}
 use Rattle.rules.specs.Calls as rules
-use Rattle.rules.specs.Calls.{done_flag, soft_flag, offer_call, tick_call}
+use Rattle.rules.specs.Calls.{done_flag, other_flag, soft_flag, offer_call, tick_call}
+use Rattle.rules.specs.Fields.{byte, word}
 use Rattle.rules.specs.Events as events
 use Rattle.rules.specs.Events.{bad_event, event, no_more}
 use Rattle.refusal.specs.Refusals.{refusal_of}
 use Rattle.refusal.specs.declared.Refusal.{Refusal}
+use Rattle.refusal.specs.declared.Refusal.TheVariants.{UnknownFlag}
 use Rattle.event.specs.declared.BadEvent.{BadEvent}
 use Rattle.event.specs.declared.Call.{Call}
 use Rattle.event.specs.declared.Event.{Event}
@@ -14,6 +16,14 @@ use Rattle.event.specs.declared.Event.{Event}
 abbrev pub call_of : rules.Call → Call
 call_of (tick_call set flags) = Call.Tick set (done_flag flags) (soft_flag flags)
 call_of (offer_call B d) = Call.Offer B d
+
+-- the call of a whole tick field, or 20
+abbrev pub tick_called : List ℕ → Result Call Refusal
+tick_called s = cond (other_flag (byte s 5)) (Err UnknownFlag) (Ok (call_of (tick_call (word s 3) (byte s 5))))
+
+-- the call of a whole offer field
+abbrev pub offer_called : List ℕ → Call
+offer_called s = call_of (offer_call (word s 3) (word s 5))
 
 -- a call at the place at, and the place after its field
 abbrev pub event_at : ℕ → rules.Call → ℕ → Event

@@ -4,11 +4,9 @@
 mod reader;
 
 ghost use Rattle.std.specs.Prelude.{◌≡◌, ◌+◌, ◌^◌, ◌<◌, ◌≤◌, length, drop};
-ghost use Rattle.rules.specs.Calls.{offer_call};
-ghost use Rattle.rules.specs.Events.{event_length, read_event, tick_event};
-ghost use Rattle.rules.specs.Fields.{word};
+ghost use Rattle.rules.specs.Events.{event_length, read_event};
 ghost use Rattle.wire.specs.Field.{length_of};
-ghost use Rattle.event.specs.Answers.{bad_at, event_at, event_of, place_after};
+ghost use Rattle.event.specs.Answers.{bad_at, event_of, offer_called, place_after, tick_called};
 
 pub use reader::{EventReader, reader_at};
 use refusal::Refusal;
@@ -18,7 +16,7 @@ const TICK_TAG: u8 = 0x21;
 
 const OFFER_TAG: u8 = 0x22;
 
-// What an event calls: a tick or an offer.
+// What an event calls: a tick or an offer. Whoever answers takes the numbers one by one: dispatch and offer don't stand on this crate.
 #[derive(Clone, Copy)]
 pub enum Call {
     Tick { set: u16, done: bool, soft: bool },
@@ -40,6 +38,7 @@ pub struct BadEvent {
 }
 
 // The event at a place, none where the events end: checks 1, 2, 3, 1, then 20, in document 01's order. A place beyond the end is the end.
+// On slice and place, with the reader beside (docs/DECISIONS.md).
 #[tactic(auto, unfolding(rules::specs::Events::read_event))]
 pub fn read_event(s: &[u8], at: usize) -> Result<Option<Event>, BadEvent>
     ensures { result ≡ event_of at (read_event (drop at s.now)) }
@@ -69,16 +68,18 @@ fn first_event(s: &[u8], at: usize) -> Result<Option<Event>, BadEvent>
     ensures { result ≡ event_of at (read_event s.now) }
 {
     let tag = wire::tag_of(s);
-    match wire::check_field(s, value_length(tag), false) {
-        Err(bad) => Err(refused(bad.why, at, bad.size)),
-        Ok(size) => {
-            if tag == TICK_TAG {
-                tick_event(s, at, size)
-            } else {
-                Ok(Some(offer_event(s, at, size)))
-            }
-        }
-    }
+    let size = wire::check_field(s, value_length(tag), false).map_err(|bad| refused(
+        bad.why, at, bad.size,
+    ))?;
+    let call = if tag == TICK_TAG {
+        tick_call(s).map_err(|why| refused(why, at, size))?
+    } else {
+        offer_call(s)
+    };
+    Ok(Some(Event {
+        call,
+        next: at + size,
+    }))
 }
 
 // How long the value of an event tag is.
@@ -92,38 +93,30 @@ fn value_length(tag: u8) -> Option<u16>
     }
 }
 
-// A whole field with a tick's tag: 20, which shows all of it.
-fn tick_event(s: &[u8], at: usize, size: usize) -> Result<Option<Event>, BadEvent>
-    requires { (6 ≤ length s.now) × (size ≡ 6) × (at + length s.now < 2 ^ 64) }
-    ensures { result ≡ event_of at (tick_event s.now) }
+// The call of a whole field with a tick's tag, or 20. Its flags are tested as board tests those that C gives: see there.
+fn tick_call(s: &[u8]) -> Result<Call, Refusal>
+    requires { 6 ≤ length s.now }
+    ensures { result ≡ tick_called s.now }
 {
     let flags = s[5];
     if 4 <= flags {
-        return Err(refused(Refusal::UnknownFlag, at, size));
+        return Err(Refusal::UnknownFlag);
     }
-    let call = Call::Tick {
+    Ok(Call::Tick {
         set: wire::get_u16(s, 3),
         done: flags % 2 == 1,
         soft: flags / 2 % 2 == 1,
-    };
-    Ok(Some(Event {
-        call,
-        next: at + size,
-    }))
+    })
 }
 
-// A whole field with an offer's tag.
-fn offer_event(s: &[u8], at: usize, size: usize) -> Event
-    requires { (7 ≤ length s.now) × (size ≡ 7) × (at + length s.now < 2 ^ 64) }
-    ensures { result ≡ event_at at (offer_call (word s.now 3) (word s.now 5)) 7 }
+// The call of a whole field with an offer's tag.
+fn offer_call(s: &[u8]) -> Call
+    requires { 7 ≤ length s.now }
+    ensures { result ≡ offer_called s.now }
 {
-    let call = Call::Offer {
+    Call::Offer {
         budget: wire::get_u16(s, 3),
         deadline: wire::get_u16(s, 5),
-    };
-    Event {
-        call,
-        next: at + size,
     }
 }
 

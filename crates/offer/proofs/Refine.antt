@@ -4,7 +4,7 @@ use mathlib.Core.Path.{fun_ext}
 use Rattle.rules.specs.Lists.{sum}
 use Rattle.std.specs.Bool.{then_some}
 use Rattle.rules.specs.Refusals.{B_zero, d_under_b, queue_full, room_short}
-use Rattle.rules.specs.Station.{Firm, Station, closed, firm_of, nobody, opened, row_at}
+use Rattle.rules.specs.Station.{Firm, Station, closed, firm_of, opened}
 use Rattle.rules.specs.Tick.{bit}
 use Rattle.rules.specs.Offer.{Offered, accept, accepted, claims, fits, future_claim, job_claim, no_offer, offer, open_claim, queued, unrun}
 use Rattle.rules.specs.Calls.{after_offer, offer_call, step}
@@ -12,9 +12,11 @@ use Rattle.rules.specs.Image.{is_image}
 use Rattle.rules.proofs.Facts.{FirstIs}
 use Rattle.rules.proofs.ImageIs.{image_iff, image_kept}
 use Rattle.refusal.specs.declared.Refusal.TheVariants.{BZero, DUnderB, QueueFull, RoomShort}
+use Rattle.state.specs.declared.Last.{Last}
+use Rattle.state.specs.declared.Last.TheVariants as ran
 use Rattle.state.specs.declared.Rows.{Rows}
 use Rattle.state.specs.declared.State.{State}
-use Rattle.state.specs.Meaning.{Kept, Stored, age_at, entry, firm_at, firms_of, last_of, rows_from, slot_at, slots_of, station_of}
+use Rattle.state.specs.Meaning.{Kept, Stored, age_at, entry, firm_at, firms_of, last_of, last_with, rows_from, slot_at, slots_of, station_of}
 use Rattle.state.proofs.Entries.{last_rows, total_rows}
 use Rattle.state.proofs.Positions.{length_rows, same_rows}
 use Rattle.offer.specs.Steps.{OfferMade, claim_at, claims_of, offer_made, open_of, queued_in, refused_by, row_now, ticket_for, unrun_of}
@@ -52,14 +54,12 @@ first_there t g zero h e = h
 first_there t g (suc k) h e = omega arith
 
 last_is : (s : State) (B : ℕ) → FirstIs (last_of s) (firms_of s) → last_of (queued_in s B) ≡ last_of s
-last_is s B h = go (ltb s.last 16) (eqb s.last 16) h
+last_is s B h = go s.last h
   where
-    go : (a b : Bool) → FirstIs (cond a (row_at s.last) (cond b (firm_of (entry s.ticket 0)) nobody)) (firms_of s)
-        → cond a (row_at s.last) (cond b (firm_of (entry (set s.ticket s.count s.next) 0)) nobody)
-        ≡ cond a (row_at s.last) (cond b (firm_of (entry s.ticket 0)) nobody)
-    go true b f = refl
-    go false true f = ap firm_of (get_or-set_other s.ticket s.count 0 s.next 0 (first_there (entry s.ticket 0) (firm_at s) s.count f))
-    go false false f = refl
+    go : (l : Last) → FirstIs (last_with (entry s.ticket 0) l) (firms_of s) → last_with (entry (set s.ticket s.count s.next) 0) l ≡ last_with (entry s.ticket 0) l
+    go (ran.Hard i) f = refl
+    go ran.Firm f = ap firm_of (get_or-set_other s.ticket s.count 0 s.next 0 (first_there (entry s.ticket 0) (firm_at s) s.count f))
+    go ran.Nobody f = refl
 
 module _ (rows : Rows) (s : State) (B : ℕ) (K : Kept rows s) (room : s.count < 8) where
   firm_new : firm_at (queued_in s B) s.count ≡ record { ticket = s.next; budget = B; run = 0 }
@@ -101,7 +101,7 @@ module _ (rows : Rows) (s : State) (B : ℕ) (K : Kept rows s) (room : s.count <
           let blank = Q.past j (omega arith) in
           (ap (λ f. f.ticket) e ∙ blank.0, ap (λ f. f.budget) e ∙ blank.1, ap (λ f. f.run) e ∙ blank.2);
     };
-    last_le = K.last_le;
+    last_below = K.last_below;
   }
 
 -- the checks

@@ -28,7 +28,7 @@ pub fn claims(rows: &Rows, s: &State, d: u16) -> u64
     sum
 }
 
-// The row at i.
+// The row at i, which is asked to be below 16, as has of state does.
 fn row_now(rows: &Rows, s: &State, i: usize) -> RowNow
     requires { i < 16 }
     ensures { result ≡ row_now rows.now s.now i }

@@ -8,6 +8,7 @@ use std::io;
 use std::io::Print;
 use table::PlannedTable;
 
+// The file has its buffer here, since there is no heap: one byte more than a file may have.
 fn main(rt: HostRuntime) -> io::Result<()> {
     let mut buffer = [0u8; 257];
     let n = fill(&mut rt.stdin(), &mut buffer).unwrap_or(0);

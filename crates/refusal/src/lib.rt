@@ -7,6 +7,8 @@ ghost use Rattle.refusal.specs.Refusals.{number_of};
 
 use std::fmt;
 
+// C, D, T and M are a row's cost, deadline, period and margin, R its response bound; B and D an offer's budget and deadline. 12, 13 and 14
+// are the numbers of notes, which refuse nothing.
 #[derive(Clone, Copy)]
 pub enum Refusal {
     Cut = 1,
@@ -31,6 +33,7 @@ pub enum Refusal {
 }
 
 impl Refusal {
+    // The number that stands beside the name above: as, the form for an enum with numbers.
     pub fn number(self) -> u8
         ensures { result ≡ number_of self }
     {

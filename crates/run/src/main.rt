@@ -33,6 +33,7 @@ impl<'a> Input<'a> {
     }
 }
 
+// Both files have their buffers here, since there is no heap: one byte more than a file may have.
 fn main(rt: HostRuntime) -> io::Result<()> {
     let mut table = [0u8; 257];
     let mut events = [0u8; 60001];
@@ -68,7 +69,8 @@ fn run_files(rt: &impl Print, input: Input) -> io::Result<()> {
     }
 }
 
-// The events in order, from the fresh state: to their end, or to the first that is no event.
+// The events in order, from the fresh state: to their end, or to the first that is no event. A loop by hand: each event says where the next one starts,
+// and at one that is refused the reader stays, so that an iterator over it would not end.
 fn run_events(rt: &impl Print, input: Input, rows: Rows) -> io::Result<()> {
     let mut state = state::fresh_state(rows.table.n);
     let mut at = 0;
@@ -134,6 +136,7 @@ fn offer(
     ensures { state.new ≡ (offer_made rows.now state.old budget deadline).state }
 {
     let offered = offer::offer(rows, state, budget, deadline);
+    // let .. else, the form that document 01's list has here (docs/DECISIONS.md), so unwrap_err.
     let Ok(ticket) = offered else {
         return rt.println(input.refused(offered.unwrap_err(), Place::Events(field)));
     };

@@ -49,7 +49,7 @@ module _ (rows : Rows) (ps : List PlannedRow) (L : Laid rows ps) where
     };
     jobs = record { open_lt = omega arith; runs = refl; open_past = λ i h. bit_zero i; run_blank = λ i e. blank_at 16 i };
     queue = record { few = omega arith; budgets = refl; useds = refl; tickets = refl; past = λ j h. (blank_at 8 j, blank_at 8 j, blank_at 8 j) };
-    last_le = omega arith;
+    last_below = tt;
   }
 
   module _ (rs : List Row) (is_plan : plan rs ≡ planned ps) where

@@ -4,6 +4,7 @@ use Rattle.rules.specs.Bound.{PlannedRow}
 use Rattle.table.specs.Memory.{table_of, plan_of}
 use Rattle.table.specs.declared.Table.{Table}
 use Rattle.table.specs.declared.Plan.{Plan}
+use Rattle.state.specs.declared.Last.TheVariants.{Nobody}
 use Rattle.state.specs.declared.Rows.{Rows}
 use Rattle.state.specs.declared.State.{State}
 use Rattle.state.specs.Sets.{known}
@@ -23,7 +24,7 @@ fresh_in n = record {
   next = 0;
   «open» = 0;
   rested = known n;
-  last = 17;
+  last = Nobody;
   count = 0;
   run = replicate 16 0;
   stamp = replicate 16 0;

@@ -1,10 +1,13 @@
 -- What the arrays mean: the rules' station that a state in memory stands for, and what the arrays keep to. Assumes nothing.
-use Rattle.std.specs.Prelude.{◌≡◌, ℕ, zero, suc, ◌+◌, ◌-◌, ◌%◌, ◌^◌, ◌<◌, ◌≤◌, true, false, cond, List, [], ◌∷◌, map, length, ◌==◌, nat_lt, slice_index}
+use Rattle.std.specs.Prelude.{◌≡◌, ℕ, zero, suc, ◌+◌, ◌-◌, ◌%◌, ◌^◌, ◌<◌, ◌≤◌, true, false, cond, List, [], ◌∷◌, map, length, nat_lt, slice_index}
 use Rattle.rules.specs.Bound.{PlannedRow}
-use Rattle.rules.specs.Station.{Job, closed, opened, Slot, Firm, Last, nobody, row_at, firm_of, Station, fresh_slot, hold}
+use Rattle.rules.specs.Station.{Job, closed, opened, Slot, Firm, nobody, row_at, firm_of, Station, fresh_slot, hold}
+use Rattle.rules.specs.Station as rules
 use Rattle.rules.specs.Tick.{bit}
 use Rattle.rules.specs.Image.{is_image}
 use Rattle.table.specs.Memory.{table_row}
+use Rattle.state.specs.declared.Last.{Last}
+use Rattle.state.specs.declared.Last.TheVariants as ran
 use Rattle.state.specs.declared.Rows.{Rows}
 use Rattle.state.specs.declared.State.{State}
 
@@ -45,9 +48,15 @@ slots_of rows s = rows_from (slot_at rows s) 0 rows.table.n
 abbrev pub firms_of : State → List Firm
 firms_of s = rows_from (firm_at s) 0 s.count
 
--- a row below 16, 16 the first firm job, 17 nobody
-abbrev pub last_of : State → Last
-last_of s = cond (nat_lt s.last 16) (row_at s.last) (cond (s.last == 16) (firm_of (entry s.ticket 0)) nobody)
+-- the job that ran last, where the first firm job has this ticket; a row of 16 or more counts as nobody's
+abbrev pub last_with : ℕ → Last → rules.Last
+last_with first (ran.Hard i) = cond (nat_lt i 16) (row_at i) nobody
+last_with first ran.Firm = firm_of first
+last_with first ran.Nobody = nobody
+
+-- the job that ran last
+abbrev pub last_of : State → rules.Last
+last_of s = last_with (entry s.ticket 0) s.last
 
 -- the station
 unfoldable pub station_of : Rows → State → Station
@@ -87,13 +96,19 @@ pub record QueueKept (count : ℕ) (budget used ticket : List ℕ) : Type 0 wher
   pub tickets : length ticket ≡ 8
   pub past : (j : ℕ) → count ≤ j → (entry ticket j ≡ 0) × (entry budget j ≡ 0) × (entry used j ≡ 0)
 
+-- a hard job that ran last is of a row below 16
+abbrev pub LastBelow : Last → Type 0
+LastBelow (ran.Hard i) = i < 16
+LastBelow ran.Firm = Unit {0}
+LastBelow ran.Nobody = Unit {0}
+
 -- all of that
 pub record Kept (rows : Rows) (s : State) : Type 0 where
   pub table : TableKept rows
   pub times : TimesKept rows s.clock s.rested s.stamp
   pub jobs : JobsKept rows s.«open» s.run
   pub queue : QueueKept s.count s.budget s.used s.ticket
-  pub last_le : s.last ≤ 17
+  pub last_below : LastBelow s.last
 
 -- a state that a block may hold
 pub record Stored (rows : Rows) (s : State) : Type 0 where

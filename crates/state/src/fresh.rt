@@ -2,7 +2,7 @@
 ghost use Rattle.std.specs.Prelude.{◌≡◌};
 ghost use Rattle.state.specs.Fresh.{fresh_in, planned_rows};
 
-use crate::{Rows, State, sets};
+use crate::{Last, Rows, State, sets};
 use table::{Plan, Table};
 
 pub fn planned_rows(tb: Table, plan: Plan) -> Rows
@@ -23,7 +23,7 @@ pub fn fresh_state(n: usize) -> State
         next: 0,
         open: 0,
         rested: sets::known_rows(n),
-        last: 17,
+        last: Last::Nobody,
         count: 0,
         run: [0; 16],
         stamp: [0; 16],

@@ -16,8 +16,7 @@ use Rattle.rules.specs.Lists.{unless}
 use Rattle.rules.specs.Refusals.{after_end}
 use Rattle.rules.specs.Fields.{BadField, byte, field_fault}
 use Rattle.rules.specs.File.{Field, Scan, broken, end_tag, ends, field_of, is_row, margin_tag, row_tag, scan, size_of, table_length, whole, with_first}
-use Rattle.wire.specs.Field.{bad_field, field_check, field_size, length_of}
-use Rattle.wire.specs.declared.field.BadField as code
+use Rattle.wire.specs.Field.{bad_field, field_size, length_of}
 use Rattle.wire.proofs.WholeFields.{IsWhole, whole_is}
 use Rattle.table.specs.Answers.{file_refusal, is_row_tag, next_field, scanned_of}
 use Rattle.table.specs.declared.FileRefusal.{FileRefusal}
@@ -86,29 +85,6 @@ full_is n h = go (eqb n 16) refl
     go : (b : Bool) → eqb n 16 ≡ b → eqb (16 - n) 0 ≡ b
     go true e = eq-eqb (16 - n) 0 (omega (arith, eqb-true n 16 e))
     go false e = ne_eqb (16 - n) 0 (λ q. eqb-false n 16 e (omega arith))
-
--- the field, by the check of it
-module _ (full : Bool) (at : ℕ) (s : List ℕ) (value : memory.Option ℕ) (length_is : length_of value ≡ table_length (byte s 0)) where
-  fault_is : field_fault (λ tag. length_of value) (is_row s && full) s ≡ field_fault table_length (is_row s && full) s
-  fault_is = simp length_is
-
-  pub bad_found : {b : code.BadField} → field_check value (is_row s && full) s ≡ Err b
-      → Err (record { why = b.why; row = memory.None; part = record { from = at; size = b.size } }) ≡ next_field full at s
-  unfolding next_field
-  bad_found {b} e = go (field_fault table_length (is_row s && full) s) (rw fault_is at e)
-    where
-      go : (fault : Option BadField) → unless fault (λ y. Err (bad_field y)) (Ok (field_size s)) ≡ Err b
-          → Err (record { why = b.why; row = memory.None; part = record { from = at; size = b.size } }) ≡ found at s fault (is_row s)
-      go none e = cc
-      go (some y) e = cc
-
-  pub good_found : {size : ℕ} → field_check value (is_row s && full) s ≡ Ok size → Ok (then_some (is_row s) size) ≡ next_field full at s
-  unfolding next_field
-  good_found {size} e = go (field_fault table_length (is_row s && full) s) (rw fault_is at e)
-    where
-      go : (fault : Option BadField) → unless fault (λ y. Err (bad_field y)) (Ok (field_size s)) ≡ Ok size → Ok (then_some (is_row s) size) ≡ found at s fault (is_row s)
-      go none e = let same : field_size s ≡ size = cc in ap (λ (k : ℕ). Ok (then_some (is_row s) k)) (sym same)
-      go (some y) e = cc
 
 -- a row's field: there may be another row, its header says as many bytes as its tag has, and they are there
 pub record RowField (full : Bool) (s : List ℕ) (size : ℕ) : Type 0 where

@@ -7,6 +7,7 @@ use native.Mathlib.Nat.{add-zero, not-suc-le-zero, zero-add}
 use native.Mathlib.Numerals.{add-one}
 use native.Mathlib.Omega.{arith}
 use lib.ListN.{length, get_or, set, take, drop, length-map, get_or-eq_default, get_or-map}
+use Rattle.std.proofs.lemmas.List.{map-append}
 use Rattle.table.specs.Memory.{indexed, fill}
 
 module _ {A : Type 0} (g : ℕ → A) where
@@ -80,13 +81,9 @@ column_at none h l z few i = go (dec_lt i 16)
         ∙ sym z
         ∙ ap h (sym (get_or-eq_default l none (omega arith)))
 
-map_append : {A B : Type 0} (h : A → B) (l m : List A) → map h (l ++ m) ≡ map h l ++ map h m
-map_append h [] m = refl
-map_append h (a ∷ l) m = ap (λ r. h a ∷ r) (map_append h l m)
-
 -- a column of sixteen places with one more element
 pub column_next : {A : Type 0} (h : A → ℕ) (l : List A) (a : A) (i x : ℕ) → length l ≡ i → i < 16 → x ≡ h a → set (fill 16 (map h l)) i x ≡ fill 16 (map h (l ++ (a ∷ [])))
 column_next h l a i x e few v =
     fill_next 16 (map h l) i x (length-map l h ∙ e) few
     ∙ ap (λ (y : ℕ). fill 16 (map h l ++ (y ∷ []))) v
-    ∙ ap (fill 16) (sym (map_append h l (a ∷ [])))
+    ∙ ap (fill 16) (sym (map-append h l (a ∷ [])))

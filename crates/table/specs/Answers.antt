@@ -87,11 +87,12 @@ abbrev pub bound_of : bounds.Bound → memory.Option Bound
 bound_of (bound R rounds) = memory.Some (record { r = R; rounds = rounds })
 bound_of none_to_d = memory.None
 
--- the bound of the row at a position of a table, or 10, or 22: R + M > D
+-- the bound of a row, the one at a position, where it leaves the margin; or why not: 10, or 22, R + M > D
 abbrev pub bounded_of : Row → ℕ → bounds.Bound → Result Bound Refused
 bounded_of r i none_to_d = Err (refused_of (at_row passes_d i))
 bounded_of r i (bound R rounds) = cond (ltb r.D (R + r.M)) (Err (refused_of (at_row R_M_over_D i))) (Ok (record { r = R; rounds = rounds }))
 
+-- that of the row at a position of a table
 abbrev pub row_bound : Table → ℕ → Result Bound Refused
 row_bound tb i = bounded_of (table_row tb i) i (response (above_of tb i) (table_row tb i))
 

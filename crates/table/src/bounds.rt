@@ -1,5 +1,5 @@
 // The response bound of a row, and from it the plan of a table.
-ghost use Rattle.std.specs.Prelude.{◌≡◌, [], suc, ◌+◌, ◌-◌, ◌*◌, ◌≤◌, ◌<◌};
+ghost use Rattle.std.specs.Prelude.{◌≡◌, [], ◌*◌, ◌≤◌, ◌<◌};
 ghost use Rattle.rules.specs.Bound.{response, plan_rows};
 ghost use Rattle.table.specs.Memory.{table_row, rows_of, above_of, Sound};
 ghost use Rattle.table.specs.Answers.{demand_of, bound_of, planning_of, row_bound};
@@ -23,9 +23,9 @@ pub struct SoundTable {
 }
 
 impl SoundTable {
-    // Its plan: rows in order, 10 and then 22 in each.
-    pub fn plan(self) -> Result<Plan, Refused>
-        ensures { result ≡ planning_of (plan_rows [] 0 (rows_of self.table)) }
+    // Its plan: rows in order, 10 and then 22 in each; put into the columns one by one, since nothing collects into arrays.
+    pub fn plan(&self) -> Result<Plan, Refused>
+        ensures { result ≡ planning_of (plan_rows [] 0 (rows_of self.now.table)) }
     {
         let tb = self.table;
         let mut r = [0u16; 16];
@@ -41,9 +41,9 @@ impl SoundTable {
     }
 
     // The bound of row i, which leaves its margin; or 10, then 22.
-    fn row_bound(self, i: usize) -> Result<Bound, Refused>
-        requires { i < self.table.n }
-        ensures { result ≡ row_bound self.table i }
+    fn row_bound(&self, i: usize) -> Result<Bound, Refused>
+        requires { i < self.now.table.n }
+        ensures { result ≡ row_bound self.now.table i }
     {
         let tb = self.table;
         let bound = self.bound_of_row(i).ok_or(Refused {
@@ -59,10 +59,10 @@ impl SoundTable {
         Ok(bound)
     }
 
-    // The iteration of row i, from w = C, until its value repeats; nothing where it passes D. A round is an evaluation of f.
-    fn bound_of_row(self, i: usize) -> Option<Bound>
-        requires { i < self.table.n }
-        ensures { result ≡ bound_of (response (above_of self.table i) (table_row self.table i)) }
+    // The iteration of row i, from w = C, until its value repeats; nothing where it passes D. A round is an evaluation of f. A loop by hand: it goes from value to value, and yields the bound by break.
+    fn bound_of_row(&self, i: usize) -> Option<Bound>
+        requires { i < self.now.table.n }
+        ensures { result ≡ bound_of (response (above_of self.now.table i) (table_row self.now.table i)) }
     {
         let d = u64::from(self.table.d[i]);
         let c = u64::from(self.table.c[i]);
@@ -75,6 +75,7 @@ impl SoundTable {
             rounds += 1;
             let v = c + self.demand(i, w);
             if v == w {
+                // w ≤ D fits, so `as`: try_from would bring an error that never comes.
                 let r = w as u16;
                 break Some(Bound { r, rounds });
             }
@@ -83,9 +84,9 @@ impl SoundTable {
     }
 
     // What the rows above row i ask at most of w ticks: the sum of ceil(w / T) * C.
-    fn demand(self, i: usize, w: u64) -> u64
-        requires { (i ≤ self.table.n) × (w < 65536) }
-        ensures { (result ≡ demand_of (above_of self.table i) w) × (result ≤ i * (65535 * 65535)) }
+    fn demand(&self, i: usize, w: u64) -> u64
+        requires { (i ≤ self.now.table.n) × (w < 65536) }
+        ensures { (result ≡ demand_of (above_of self.now.table i) w) × (result ≤ i * (65535 * 65535)) }
     {
         let mut sum: u64 = 0;
         for j in 0..i {

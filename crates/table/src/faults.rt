@@ -1,5 +1,5 @@
 // The checks 6 to 9 and 21 of rows.
-ghost use Rattle.std.specs.Prelude.{◌≡◌, ◌||◌, [], ◌≤◌, ◌<◌, leb};
+ghost use Rattle.std.specs.Prelude.{◌≡◌, ◌||◌, [], ◌<◌, leb};
 ghost use Rattle.rules.specs.Rows.{used};
 ghost use Rattle.rules.specs.File.{fields_fault};
 ghost use Rattle.table.specs.Memory.{table_row, above_of, fields_of};
@@ -9,7 +9,7 @@ use crate::row::FileRows;
 use crate::{Refused, Table, form};
 use refusal::Refusal;
 
-// Rows in order, 6 to 9 in each, then 21.
+// Rows in order, 6 to 9 in each, then 21. With `map_err(..)?` the proof would lack what the closure says of the row.
 pub fn rows_check(rows: FileRows) -> Result<(), Refused>
     ensures { result ≡ rows_pass (fields_fault rows.table.n [] 0 (fields_of rows)) }
 {

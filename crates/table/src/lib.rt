@@ -8,7 +8,7 @@ mod row; // row.rt: rows in memory
 mod scan; // scan.rt: a file read
 mod writing; // writing.rt: a file written
 
-ghost use Rattle.std.specs.Prelude.{◌≡◌, ◌≤◌};
+ghost use Rattle.std.specs.Prelude.{◌≡◌};
 ghost use Rattle.rules.specs.File.{plan_fields, write};
 ghost use Rattle.table.specs.Memory.{fields_of, rows_of};
 ghost use Rattle.table.specs.Walk.{fields_in};
@@ -41,11 +41,21 @@ pub struct Plan {
     pub rounds: [u16; 16],
 }
 
-// Why the rows of a table are refused, and at which row, counted from 0; 0 too where it is about none.
+// Why the rows of a table are refused, and at which row, counted from 0. No Option: only 5 is about no row (0 then, as in the rules' record),
+// and whoever shows a row's field would take one apart that is never None.
 #[derive(Clone, Copy)]
 pub struct Refused {
     pub why: Refusal,
     pub row: usize,
+}
+
+// The refusal without its row.
+impl From<Refused> for Refusal {
+    ghost from_gives = { λ x why. why ≡ x.why };
+
+    fn from(x: Refused) -> Refusal {
+        x.why
+    }
 }
 
 // A table with its plan.
@@ -112,8 +122,6 @@ pub fn write_table(tb: Table, out: &mut [u8]) -> Result<usize, Refusal>
     ensures value { result ≡ written_of (write (rows_of tb) out.old) }
     ensures out_after { out.new ≡ output_after out.old (write (rows_of tb) out.old) }
 {
-    match plan_table(tb) {
-        Err(x) => Err(x.why),
-        Ok(_) => writing::put_table(tb, out),
-    }
+    plan_table(tb)?;
+    writing::put_table(tb, out)
 }

@@ -20,7 +20,7 @@ pub struct FileRow {
     pub row: Row,
 }
 
-// The rows of a file, at most sixteen, and the tags of their fields.
+// The rows of a file, at most sixteen, and the tags of their fields: one column more, as the table has columns.
 #[derive(Clone, Copy)]
 pub struct FileRows {
     pub table: Table,

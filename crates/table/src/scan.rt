@@ -1,5 +1,5 @@
 // The scan of a table file: its fields one after the other, to the end field; the rows that it holds; and the row that a refusal shows.
-ghost use Rattle.std.specs.Prelude.{◌≡◌, suc, ◌+◌, ◌≤◌, ◌<◌, length, drop};
+ghost use Rattle.std.specs.Prelude.{◌≡◌, ◌+◌, ◌≤◌, ◌<◌, length, drop};
 ghost use Rattle.rules.specs.File.{field_of, field_rows, row_of, scan, size_of, table_length};
 ghost use Rattle.wire.specs.Field.{field_size, length_of};
 ghost use Rattle.table.specs.Memory.{fields_of, table_of};
@@ -30,15 +30,16 @@ pub fn scan_fields(s: &[u8]) -> Result<usize, FileRefusal>
 }
 
 // The field at the start of s, which stands at a place of the file: of a row, its size; of the end, nothing. full: sixteen rows came before it.
+#[tactic(auto, unfolding(crate::specs::Answers::next_field))]
 fn field_of(s: &[u8], at: usize, full: bool) -> Result<Option<usize>, FileRefusal>
     ensures { result ≡ next_field full at s.now }
 {
     let tag = wire::tag_of(s);
     let row = is_row(tag);
-    match wire::check_field(s, value_length(tag), row && full) {
-        Ok(size) => Ok(row.then_some(size)),
-        Err(bad) => Err(shown(bad.why, at, bad.size)),
-    }
+    let size = wire::check_field(s, value_length(tag), row && full).map_err(|bad| shown(
+        bad.why, at, bad.size,
+    ))?;
+    Ok(row.then_some(size))
 }
 
 // A refusal that is about no row, with the part that it shows.
@@ -81,7 +82,7 @@ pub struct ScannedFile<'a> {
 }
 
 impl ScannedFile<'_> {
-    // Its rows.
+    // Its rows, put into the columns one by one: nothing collects into arrays.
     pub fn rows(self) -> FileRows
         ensures fields { fields_of result ≡ fields_in self.entry.bytes.now self.entry.n }
         ensures table { result.table ≡ table_of (field_rows (fields_in self.entry.bytes.now self.entry.n)) }
@@ -125,6 +126,7 @@ impl ScannedFile<'_> {
         }
         FileRefusal {
             why: x.why,
+            // Counted from 1, and at most 16, so `as`: try_from would bring an error that never comes.
             row: Some(x.row as u8 + 1),
             part: Part {
                 from: at,
@@ -134,7 +136,7 @@ impl ScannedFile<'_> {
     }
 }
 
-// The row whose field stands at a place.
+// The row whose field stands at a place. On slice and place, as wire's functions are.
 fn file_row_at(s: &[u8], at: usize) -> FileRow
     requires { at + size_of (tag_at s.now at) ≤ length s.now }
     ensures { field_in result ≡ field_of (drop at s.now) }

@@ -58,7 +58,7 @@ fn put_rows(tb: Table, out: &mut [u8]) -> usize
     at
 }
 
-// The row at a position.
+// The row at a position, which is asked to be below 16 as in faults.rt.
 fn row_at(tb: Table, i: usize) -> Row
     requires { i < 16 }
     ensures { row_in result ≡ table_row tb i }
@@ -72,7 +72,7 @@ fn row_at(tb: Table, i: usize) -> Row
     }
 }
 
-// One row's field at a place: tag 01 where the margin is 0.
+// One row's field at a place: tag 01 where the margin is 0. An output and a place go together here as wire's functions take them.
 fn put_row(row: Row, out: &mut [u8], at: usize)
     requires { at + row_size row.m ≤ length out.old }
     ensures { out.new ≡ sets out.old at (row_bytes (row_in row)) }

@@ -13,7 +13,7 @@ pub struct BadField {
     pub size: usize,
 }
 
-// The tag at the start of s; 0 where there is none.
+// The tag at the start of s, 0 where there is none. No Option: no field has the tag 0, so both callers, which look a tag up, find nothing.
 pub fn tag_of(s: &[u8]) -> u8
     ensures { result ≡ byte s.now 0 }
 {

@@ -4,14 +4,15 @@
 mod field; // field.rt: tag, length and value, and what is wrong with them
 mod view; // view.rt: the part that a refusal shows
 
-ghost use Rattle.std.specs.Prelude.{◌≡◌, [], ◌∷◌, ◌+◌, ◌<◌, ◌≤◌, length};
+ghost use Rattle.std.specs.Prelude.{◌≡◌, [], ◌∷◌, ◌+◌, ◌≤◌, length};
 ghost use Rattle.std.proofs.lemmas.List.Edits.{sets};
 ghost use Rattle.rules.specs.Fields.{word, two};
 
 pub use field::{BadField, check_field, tag_of};
 pub use view::{Part, Place, shown};
 
-// The number whose two bytes stand at a place.
+// The number whose two bytes stand at a place. No trait for the widths, as block has one: these functions are big-endian, in a slice of any
+// length, and docs/promises.md names them.
 pub fn get_u16(s: &[u8], at: usize) -> u16
     requires { at + 2 ≤ length s.now }
     ensures { result ≡ word s.now at }
