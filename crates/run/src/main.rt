@@ -75,7 +75,7 @@ fn run_events(rt: &impl Print, input: Input, rows: Rows) -> io::Result<()> {
     let mut state = state::fresh_state(rows.table.n);
     let mut at = 0;
     loop {
-        match event::read_event(input.events, at) {
+        match event::reader_at(input.events, at).next() {
             Ok(Some(event)) => {
                 let field = Part {
                     from: at,
