@@ -117,16 +117,15 @@ pub extern "C" fn heechstjer_offer(block: &mut [u8], budget: u16, deadline: u16)
     ensures value { result ≡ (offer_block block.old budget deadline).answer }
     ensures block_after { block.new ≡ (offer_block block.old budget deadline).block }
 {
-    let Some(decoded) = block::decode(block) else {
+    let Some(mut decoded) = block::decode(block) else {
         return refused_offer(Refusal::NotImage);
     };
-    let mut queued = decoded.state;
-    let offered = offer::offer(&decoded.rows, &mut queued, budget, deadline);
+    let offered = offer::offer(&decoded.rows, &mut decoded.state, budget, deadline);
     // let .. else, the form that document 01's list has here (docs/DECISIONS.md), so unwrap_err.
     let Ok(ticket) = offered else {
         return refused_offer(offered.unwrap_err());
     };
-    block::write_state(queued, block);
+    block::write_state(decoded.state, block);
     OfferAnswer { ticket, refusal: 0 }
 }
 
